@@ -1,0 +1,10 @@
+pub mod Refusals
+pub mod Layout
+pub mod Tree
+pub mod Access
+pub mod Steps
+pub mod Run
+pub mod TakenIn
+pub mod Report
+pub mod Printed
+pub mod Starred

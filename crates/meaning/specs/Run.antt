@@ -1,0 +1,176 @@
+-- The run over the records: starts, steps, the row and the history that they leave, and refusals 7 to 10.
+use Prim.Native.Nat.{ℕ, zero, suc, _+_, _^_}
+use mathlib.Core.Bool.{Bool, true, false, not, cond, _&&_}
+use mathlib.Core.List.{List, [], _∷_}
+use lib.ListN.{length}
+use lib.Dec.{leb, eqb}
+use Rattle.sets.specs.Processes.{nobody, countBelow}
+use Rattle.recording.specs.Record.{Answer}
+use Rattle.recording.specs.declared.Event.{Event}
+use Rattle.recording.specs.declared.Event.the-variants.{Step, Read, Add}
+use Rattle.meaning.specs.Refusals.{_when_, firstOf}
+use Rattle.meaning.specs.Layout.{headRefusal, height, Records, end, broken, event, recordsOf}
+use Rattle.meaning.specs.Tree.{processes}
+use Rattle.meaning.specs.Access.{Access, starts, isRootRead, isSecondLink}
+use Rattle.meaning.specs.Steps.{upd, Memory, Process, idle, Effect, effect, accessOf, nextRecord}
+
+-- What one record of the recording did: which process, for which operation, what, and whether that was an SC that succeeded.
+pub record Entry : Type 0 where
+  pub process : ℕ
+  pub operation : ℕ
+  pub access : Access
+  pub stored : Bool
+
+-- An operation's row but for its rank. Kind is 2 or 3; started and ended are how many records had been taken before its start record and
+-- before its last step.
+pub record Row : Type 0 where
+  pub process : ℕ
+  pub kind : ℕ
+  pub delta : ℕ
+  pub finished : Bool
+  pub contention : ℕ
+  pub steps : ℕ
+  pub answer : ℕ
+  pub seconds : ℕ
+  pub started : ℕ
+  pub ended : ℕ
+
+-- The state after some records: the memory, each process's record, how many operations have started, their rows by number from 0, and
+-- what each record did, the latest first.
+pub record State : Type 0 where
+  pub memory : Memory
+  pub process : ℕ → Process
+  pub operations : ℕ
+  pub row : ℕ → Row
+  pub history : List Entry
+
+unfoldable pub blank : Row
+blank = record { process = 0; kind = 0; delta = 0; finished = false; contention = 0; steps = 0; answer = 0; seconds = 0; started = 0; ended = 0 }
+
+-- "All values start at 0 and all link sets empty."
+unfoldable pub initial : State
+initial =
+    record {
+      memory = record { value = λ x. 0; linked = λ x. nobody };
+      process = λ p. idle;
+      operations = 0;
+      row = λ i. blank;
+      history = [];
+    }
+
+-- "A process is busy from its start record to its last step."
+unfoldable pub busy : (ℕ → Process) → ℕ → Bool
+busy process p = not (eqb (process p .step) 0)
+
+-- ---- a start record
+
+unfoldable pub started : ℕ → Bool → ℕ → Process
+started i adds delta = record { step = 1; operation = i; adds = adds; delta = delta; seen = 0; seenLeft = 0; seenRight = 0 }
+
+unfoldable pub kindOf : Bool → ℕ
+kindOf adds = cond adds 3 2
+
+-- "contention: busy processes right after its start record, itself included"
+unfoldable pub newRow : ℕ → ℕ → Bool → ℕ → (ℕ → Process) → ℕ → Row
+newRow h p adds delta after now =
+    record {
+      process = p;
+      kind = kindOf adds;
+      delta = delta;
+      finished = false;
+      contention = countBelow (processes h) (busy after);
+      steps = 0;
+      answer = 0;
+      seconds = 0;
+      started = now;
+      ended = 0;
+    }
+
+unfoldable pub start : ℕ → ℕ → Bool → ℕ → State → State
+start h p adds delta st =
+    let after : ℕ → Process = upd (st .process) p (started (st .operations) adds delta) in
+    record {
+      memory = st .memory;
+      process = after;
+      operations = suc (st .operations);
+      row = upd (st .row) (st .operations) (newRow h p adds delta after (length (st .history)));
+      history = record { process = p; operation = st .operations; access = starts; stored = false } ∷ st .history;
+    }
+
+-- ---- a step
+
+-- The row after one more step: "Each operation's count of steps is the number of kind 1 records it used"; "a finished read's answer;
+-- otherwise 0"; "second attempts begun, that is, with their LL taken".
+unfoldable pub rowAfter : Access → Process → ℕ → Row → Row
+rowAfter a r now w =
+    record {
+      process = w .process;
+      kind = w .kind;
+      delta = w .delta;
+      finished = eqb (r .step) 0;
+      contention = w .contention;
+      steps = suc (w .steps);
+      answer = cond (isRootRead a) (r .seen) 0;
+      seconds = w .seconds + cond (isSecondLink a) 1 0;
+      started = w .started;
+      ended = now;
+    }
+
+unfoldable pub takeStep : ℕ → ℕ → State → State
+takeStep h p st =
+    let r : Process = st .process p in
+    let a : Access = accessOf h p r in
+    let f : Effect = effect p r (st .memory) a in
+    let r′ : Process = nextRecord h p r f in
+    record {
+      memory = f .memory;
+      process = upd (st .process) p r′;
+      operations = st .operations;
+      row = upd (st .row) (r .operation) (rowAfter a r′ (length (st .history)) (st .row (r .operation)));
+      history = record { process = p; operation = r .operation; access = a; stored = f .stored } ∷ st .history;
+    }
+
+-- ---- the records, from first to last
+
+unfoldable pub processOf : Event → ℕ
+processOf (Step p) = p
+processOf (Read p) = p
+processOf (Add p d) = p
+
+unfoldable pub isStart : Event → Bool
+isStart (Step p) = false
+isStart (Read p) = true
+isStart (Add p d) = true
+
+-- "each by 6, 7, then 8 or 9, then 10"; a record that 6 refuses has no event
+unfoldable pub recordRefusal : ℕ → State → Event → ℕ
+recordRefusal h st e =
+    firstOf
+    (7 when leb (processes h) (processOf e)
+    ∷ 8 when (isStart e && busy (st .process) (processOf e))
+    ∷ 9 when (not (isStart e) && not (busy (st .process) (processOf e)))
+    ∷ 10 when (isStart e && leb 1024 (st .operations))
+    ∷ [])
+
+unfoldable pub takeEvent : ℕ → State → Event → State
+takeEvent h st (Step p) = takeStep h p st
+takeEvent h st (Read p) = start h p false 0 st
+takeEvent h st (Add p d) = start h p true d st
+
+-- a recording is refused, or accepted with the state after its last record
+pub data Outcome : Type 0 where
+  refused : Answer → Outcome
+  accepted : State → Outcome
+
+-- the refusal at that place, or where its number is 0 what follows
+unfoldable pub unless : ℕ → ℕ → Outcome → Outcome
+unless zero at next = next
+unless (suc k) at next = refused (record { number = suc k; place = at })
+
+unfoldable pub run : ℕ → State → Records → Outcome
+run h st end = accepted st
+run h st (broken at) = refused (record { number = 6; place = at })
+run h st (event at e rest) = unless (recordRefusal h st e) at (run h (takeEvent h st e) rest)
+
+unfoldable pub outcome : List ℕ → Outcome
+outcome s = unless (headRefusal s) 0 (run (height s) initial (recordsOf s))

@@ -1,0 +1,41 @@
+-- `put`: a number that names no process, or one that is in the set, changes nothing; else 2 ^ p is added where the digit p is 0.
+use Prim.Native.Nat.{ℕ, _+_}
+use mathlib.Core.Bool.{false}
+use mathlib.Core.Path.{_≡_, refl, sym, ap, _∙_}
+use native.Mathlib.Omega.{arith}
+use borrow.Author.Needs.{needs}
+use Rattle.sets.specs.Processes.{isIn}
+use Rattle.sets.proofs.Digits.{fits, weight}
+use Rattle.sets.proofs.Laws.{with-beyond, is-with, isIn-with}
+use Rattle.sets.proofs.put.Statement.{statement}
+use Rattle.sets.proofs.put.Tie as tie
+
+returns : tie.Need-returns
+returns c = sym (with-beyond _ _ (c .if1 .taken))
+
+has-requires : tie.Need-has-requires
+has-requires c κs = search needs
+
+returns-2 : tie.Need-returns-2
+returns-2 c = is-with _ _ _ (c .before .before .if1 .left) (sym (c .before .has .ensures) ∙ c .if2 .taken) (λ q n. refl)
+
+shl-result : tie.Need-shl-result
+shl-result c = search needs
+
+not-in : (c : tie.Else2) → isIn (c .before .before .before .args .set) (c .before .before .before .args .p) ≡ false
+not-in c = sym (c .before .has .ensures) ∙ c .if2 .left
+
+add-result : tie.Need-add-result
+add-result c =
+    let a = c .before .before .before in
+    let below = c .before .before .if1 .left in
+    omega (arith, weight (a .args .p) below, fits 64 (a .args .p) (a .args .set) below (a .fits .set .fits) (not-in c))
+
+returns-3 : tie.Need-returns-3
+returns-3 c =
+    let set = c .before .before .before .args .set in
+    let below = c .before .before .if1 .left in
+    ap (λ (w : ℕ). isIn (set + w)) (weight _ below) ∙ isIn-with _ _ below (not-in c)
+
+pub put-spec : {M : Type 1} → statement M
+put-spec = tie.close (tie.spec returns has-requires returns-2 shl-result add-result returns-3)
