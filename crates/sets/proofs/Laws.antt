@@ -92,7 +92,7 @@ count-same zero s t f = refl
 count-same (suc k) s t f = ap₂ (λ (n : ℕ) (b : Bool). n + cond b 1 0) (count-same k s t (λ q h. f q (omega arith))) (f k (omega arith))
 
 -- two sets that differ at p alone
-count-differ : (k p : ℕ) (s t : ℕ → Bool) → p < k → s p ≡ false → t p ≡ true → ((q : ℕ) → (q ≡ p → ⊥) → t q ≡ s q)
+pub count-differ : (k p : ℕ) (s t : ℕ → Bool) → p < k → s p ≡ false → t p ≡ true → ((q : ℕ) → (q ≡ p → ⊥) → t q ≡ s q)
     → countBelow k t ≡ suc (countBelow k s)
 unfolding countBelow
 count-differ zero p s t h e d f = omega arith

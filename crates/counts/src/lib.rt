@@ -1,0 +1,176 @@
+// How many of each leaf's additions are in the node at each level, and in what a process has read but not yet stored.
+ghost use Prim.Native.Nat.{ℕ, suc, _+_, _^_, _≤_, _<_, max};
+ghost use mathlib.Core.List.{List};
+ghost use mathlib.Core.Path.{_≡_};
+ghost use lib.ListN.{length};
+ghost use Rattle.arrays.specs.Arrays.{asFun, between};
+ghost use Rattle.counts.specs.Counts.{levels, countsOf, firstUnder, readOver, storedOver, attempted, countsAfter, CanCount};
+
+// The counts of from for the processes lo to hi - 1, those of to for the others.
+fn copied(to: [u16; 64], from: [u16; 64], lo: usize, hi: usize) -> [u16; 64]
+    requires { ⌜ hi ≤ 64 ⌝ }
+    ensures { λ r. ⌜ asFun r ≡ between lo hi (asFun from) (asFun to) ⌝ }
+{
+    let mut r = to;
+    let source = from;
+    for q in lo..hi {
+        r[q] = source[q];
+    }
+    r
+}
+
+fn larger(a: u16, b: u16) -> u16
+    ensures { λ r. ⌜ r ≡ max a b ⌝ }
+{
+    if a < b { b } else { a }
+}
+
+// The greater count of the two for the processes lo to hi - 1, that of to for the others.
+fn raised(to: [u16; 64], from: [u16; 64], lo: usize, hi: usize) -> [u16; 64]
+    requires { ⌜ hi ≤ 64 ⌝ }
+    ensures { λ r. ⌜ asFun r ≡ between lo hi (λ q. max (asFun to q) (asFun from q)) (asFun to) ⌝ }
+{
+    let mut r = to;
+    let source = from;
+    for q in lo..hi {
+        r[q] = larger(r[q], source[q]);
+    }
+    r
+}
+
+// The counts at a level: the leaves' own at 0.
+fn at_level(counts: [[u16; 64]; 6], written: [u16; 64], l: usize) -> [u16; 64]
+    requires { ⌜ l ≤ 6 ⌝ }
+    ensures { λ r. ⌜ asFun r ≡ levels written counts l ⌝ }
+{
+    if l == 0 {
+        return written;
+    }
+    counts[l - 1]
+}
+
+// The three below do nothing: through a reference a proof does not know an array's length, and learns it by their contracts.
+fn sixty_four_counts(a: [u16; 64]) -> bool
+    ensures { λ r. ⌜ length a ≡ 64 ⌝ }
+{
+    true
+}
+
+fn six_rows(a: [[u16; 64]; 6]) -> bool
+    ensures { λ r. ⌜ length a ≡ 6 ⌝ }
+{
+    true
+}
+
+fn sixty_four_rows(a: [[u16; 64]; 64]) -> bool
+    ensures { λ r. ⌜ length a ≡ 64 ⌝ }
+{
+    true
+}
+
+// The read of a child at level l by process p, for the processes lo to hi - 1.
+fn read_child(
+    counts: &[[u16; 64]; 6],
+    written: &[u16; 64],
+    read: &mut [[u16; 64]; 64],
+    p: usize,
+    l: usize,
+    lo: usize,
+    hi: usize,
+)
+    requires { ⌜ p < 64 ⌝ }
+    requires { ⌜ l ≤ 6 ⌝ }
+    requires { ⌜ hi ≤ 64 ⌝ }
+    ensures { λ r. ⌜ countsOf (now (counts .entry)) (now (written .entry)) (now (read .exit)) ≡ readOver p l lo hi (countsOf (now (counts .entry)) (now (written .entry)) (now (read .entry))) ⌝ }
+{
+    sixty_four_rows(*read);
+    read[p] = copied(read[p], at_level(*counts, *written, l), lo, hi);
+}
+
+// The successful SC of process p at a node at level l + 1, for the processes lo to hi - 1.
+fn store(
+    counts: &mut [[u16; 64]; 6],
+    read: &[[u16; 64]; 64],
+    p: usize,
+    l: usize,
+    lo: usize,
+    hi: usize,
+)
+    requires { ⌜ p < 64 ⌝ }
+    requires { ⌜ l < 6 ⌝ }
+    requires { ⌜ hi ≤ 64 ⌝ }
+    ensures { λ r. ⌜ ((w : List ℕ) → countsOf (now (counts .exit)) w (now (read .entry)) ≡ storedOver p (suc l) lo hi (countsOf (now (counts .entry)) w (now (read .entry)))) ⌝ }
+{
+    six_rows(*counts);
+    counts[l] = raised(counts[l], read[p], lo, hi);
+}
+
+// How many leaves lie under a node at level l.
+fn leaves_under(l: usize) -> usize
+    requires { ⌜ l ≤ 6 ⌝ }
+    ensures { λ r. ⌜ r ≡ 2 ^ l ⌝ }
+{
+    1 << l
+}
+
+// The first process whose leaf lies under the node l levels above that of p.
+fn first_under(l: usize, p: usize) -> usize
+    requires { ⌜ l ≤ 6 ⌝ }
+    requires { ⌜ p < 64 ⌝ }
+    ensures { λ r. ⌜ (r ≡ firstUnder l p) × (r + 2 ^ l ≤ 64) ⌝ }
+{
+    (p >> l) << l
+}
+
+// The counts after the access i of an attempt whose children are at level l.
+fn attempt(
+    counts: &mut [[u16; 64]; 6],
+    written: &[u16; 64],
+    read: &mut [[u16; 64]; 64],
+    p: usize,
+    l: usize,
+    i: u32,
+    stored: bool,
+)
+    requires { ⌜ p < 64 ⌝ }
+    requires { ⌜ l < 6 ⌝ }
+    ensures { λ r. ⌜ countsOf (now (counts .exit)) (now (written .entry)) (now (read .exit)) ≡ attempted p l i stored (countsOf (now (counts .entry)) (now (written .entry)) (now (read .entry))) ⌝ }
+{
+    let lo = first_under(l + 1, p);
+    let hi = lo + leaves_under(l + 1);
+    let mid = lo + leaves_under(l);
+    match i {
+        1 => read_child(counts, written, read, p, l, lo, mid),
+        2 => read_child(counts, written, read, p, l, mid, hi),
+        3 => {
+            if stored {
+                store(counts, read, p, l, lo, hi);
+            }
+        }
+        _ => {}
+    }
+}
+
+// The counts after the step s of an addition of process p.
+pub fn take_in(
+    counts: &mut [[u16; 64]; 6],
+    written: &mut [u16; 64],
+    read: &mut [[u16; 64]; 64],
+    p: usize,
+    s: u32,
+    stored: bool,
+)
+    requires { ⌜ CanCount p s (now written) ⌝ }
+    ensures { λ r. ⌜ countsOf (now (counts .exit)) (now (written .exit)) (now (read .exit)) ≡ countsAfter p s stored (countsOf (now (counts .entry)) (now (written .entry)) (now (read .entry))) ⌝ }
+{
+    if s == 2 {
+        sixty_four_counts(*written);
+        written[p] = written[p] + 1;
+        return;
+    }
+    if s < 3 {
+        return;
+    }
+    let l = ((s - 3) / 8) as usize;
+    attempt(counts, written, read, p, l, (s - 3) % 4, stored);
+}

@@ -1,0 +1,6 @@
+pub mod Agrees
+pub mod Room
+pub mod Runs
+pub mod Started
+pub mod Loop
+pub mod Answers

@@ -1,0 +1,174 @@
+-- There is room in every array for one more step: what the code's step asks follows from the agreement.
+use Prim.Native.Nat.{ℕ, zero, suc, _+_, _*_, _^_, _≤_, _<_}
+use native.Mathlib.Nat.{add-zero}
+use native.Mathlib.Omega.{arith}
+use mathlib.Core.Path.{_≡_, refl, sym, ap, _∙_, subst}
+use mathlib.Core.Bool.{Bool, true, false, cond, _&&_, _||_}
+use mathlib.Core.List.{List, [], _∷_, List·Memᴰ, List·Memᴰ·head, List·Memᴰ·tail}
+use lib.ListN.{length, getD}
+use lib.Dec.{eqb}
+use lib.Pow.{pow-mono}
+use borrow.Author.Tests.{eq-eqb, ne-eqb}
+use Rattle.sets.specs.Processes.{countBelow, isIn}
+use Rattle.sets.proofs.Laws.{count-differ, count-le}
+use Rattle.arrays.specs.Arrays.{asFun}
+use Rattle.meaning.specs.Access.{isLeafWrite}
+use Rattle.meaning.specs.Steps.{Process}
+use Rattle.meaning.specs.Run.{Entry, Row, State}
+use Rattle.meaning.specs.Report.{one}
+use Rattle.taken.specs.CountIn.{writesBy, countIn, Waiter, waiters}
+use Rattle.taken.proofs.Agree.{written}
+use Rattle.machine.specs.Arrays.{processOf, idleRecord}
+use Rattle.machine.specs.Nexts.{lastStep}
+use Rattle.machine.specs.declared.Process.{Process as Record}
+use Rattle.counts.specs.Counts.{countsOf, levels}
+use Rattle.rows.specs.Rows.{head, rowNumbers, RoomToStep}
+use Rattle.listing.specs.Queue.{queueOf, CanList}
+use Rattle.listing.specs.declared.Listed.{Listed}
+use Rattle.listing.proofs.Laws.{All, none, more, length-queueOf, operations-all}
+use Rattle.ledger.specs.Kept.{Kept}
+use Rattle.ledger.proofs.Did.{did, did-leaf}
+use Rattle.ledger.proofs.Kept.{mem-keep}
+use Rattle.ledger.proofs.Waiters.{waiter-writes}
+use Rattle.ledger.proofs.Listing.{waitingOf}
+use Rattle.ledger.proofs.Total.{acts, size, total-few, not-acted}
+use Rattle.keeping.specs.Keeping.{keptOf, CanKeep}
+use Rattle.engine.proofs.Agrees.{Agrees, stepping, can-step}
+
+all-of : {A : Type 0} (P : A → Type 0) (l : List A) → ((a : A) → List·Memᴰ a l → P a) → All P l
+all-of P [] f = none
+all-of P (a ∷ l) f = more (f a (List·Memᴰ·head refl)) (all-of P l (λ x m. f x (List·Memᴰ·tail m)))
+
+writes-few : (q : ℕ) (es : List Entry) → writesBy q es ≤ length es
+unfolding writesBy
+writes-few q [] = omega arith
+writes-few q (e ∷ es) = go (isLeafWrite (e .access) && eqb q (e .process)) (writes-few q es)
+  where
+    go : (t : Bool) → writesBy q es ≤ length es → writesBy q es + cond t 1 0 ≤ suc (length es)
+    go true h = omega arith
+    go false h = omega arith
+
+-- where one is missing, the count is less
+count-less : (k p : ℕ) (s : ℕ → Bool) → p < k → s p ≡ false → countBelow k s < k
+count-less k p s b e =
+    omega (arith, count-differ k p s (λ q. s q || eqb q p) b e (rw (eq-eqb p p refl) (or-all (s p))) (λ q n. rw (ne-eqb q p n) (or-none (s q))), count-le k (λ q. s q || eqb q p))
+  where
+    or-all : (t : Bool) → (t || true) ≡ true
+    or-all true = refl
+    or-all false = refl
+
+    or-none : (t : Bool) → (t || false) ≡ t
+    or-none true = refl
+    or-none false = refl
+
+last-small : (h : ℕ) (adds : Bool) → h ≤ 6 → lastStep h adds ≤ 50
+unfolding lastStep
+last-small h true b = omega arith
+last-small h false b = omega arith
+
+leaf-count : (counts read : List (List ℕ)) (writes : List ℕ) (h p : ℕ) (es : List Entry) → countsOf counts writes read .inNode 0 p ≡ countIn h 0 p es → asFun writes p ≡ writesBy p es
+unfolding countsOf levels countIn
+leaf-count counts read writes h p es e = e
+
+module _ (h at : ℕ) (st : State) (vals links : List ℕ) (ps : List Record) (set₀ m : ℕ) (counts : List (List ℕ)) (writes : List ℕ) (read : List (List ℕ)) (queue turns rows : List ℕ) (l : Listed)
+    (A : Agrees h at st vals links ps set₀ m (keptOf counts writes read queue turns rows l)) (p : ℕ) (inside : p < 2 ^ h) (acting : isIn set₀ p ≡ true) (short : at ≤ 65536) where
+  abbrev k : Kept
+  k = keptOf counts writes read queue turns rows l
+
+  length-queue : length (queueOf (asFun queue) (asFun turns) (l .waiting)) ≡ l .waiting
+  length-queue = length-queueOf (asFun queue) (asFun turns) (l .waiting)
+
+  its-size : size k ≡ l .rank + l .waiting
+  unfolding size keptOf
+  its-size = ap (λ (n : ℕ). l .rank + n) length-queue
+
+  sizes : l .rank + l .waiting ≤ st .operations
+  sizes = omega (arith, its-size, total-few st k (A .total))
+
+  -- the acting process's operation, when it has yet to write its leaf, is neither listed nor waiting
+  sizes-less : st .process p .step ≡ 2 → l .rank + l .waiting < st .operations
+  sizes-less two =
+      let s = stepping h at st vals links ps set₀ m k A p inside acting in
+      omega (
+        arith,
+        its-size,
+        A .total .total,
+        count-less (st .operations) (st .process p .operation) (λ i. did acts i (st .history)) (A .good .owns p (s .acts))
+            (not-acted (st .process p .operation) (st .history) (A .good .fresh p (s .acts) (λ e. omega arith)) (A .good .unread p (s .acts))),
+      )
+
+  its : processOf (getD ps p idleRecord) ≡ st .process p
+  its = ap (λ (f : ℕ → Process). f p) (A .procs)
+
+  its-step : getD ps p idleRecord .step ≡ st .process p .step
+  unfolding processOf
+  its-step = ap (λ (x : Process). x .step) its
+
+  its-operation : getD ps p idleRecord .operation ≡ st .process p .operation
+  unfolding processOf
+  its-operation = ap (λ (x : Process). x .operation) its
+
+  room-to-write : asFun writes p < 65535
+  unfolding keptOf
+  room-to-write = omega (arith, its-writes, writes-few p (st .history), A .place, short)
+    where
+      its-writes : asFun writes p ≡ writesBy p (st .history)
+      its-writes = leaf-count counts read writes h p (st .history) (A .keeps .counts .inNode 0 p (omega arith) inside)
+
+  waiters-known : (w : Waiter) → List·Memᴰ w (queueOf (asFun queue) (asFun turns) (l .waiting)) → w .operation < 1024
+  unfolding keptOf
+  waiters-known w n =
+      let waits = mem-keep _ (waiters (st .history)) (subst (List·Memᴰ w) (A .keeps .queue) n) in
+      omega (
+        arith,
+        A .good .few,
+        A .good .known isLeafWrite (w .operation) (sym (did-leaf (w .operation) (st .history)) ∙ written (waiter-writes (st .history) w (waits .0))),
+      )
+
+  can-list : CanList (asFun queue) (l .waiting) (l .rank)
+  can-list =
+      record {
+        most = omega (arith, sizes, A .good .few);
+        operations = operations-all 1024 (asFun queue) (asFun turns) (l .waiting) (all-of (λ w. w .operation < 1024) _ waiters-known);
+        ranks = omega (arith, sizes, A .good .few);
+      }
+
+  room-in-row : RoomToStep (asFun rows) (getD ps p idleRecord .operation)
+  unfolding keptOf rowNumbers head one
+  room-in-row = subst (λ (o : ℕ). RoomToStep (asFun rows) o) (sym its-operation) at-row
+    where
+      o : ℕ
+      o = st .process p .operation
+
+      started : o < st .operations
+      started = A .good .owns p (stepping h at st vals links ps set₀ m k A p inside acting .acts)
+
+      first-number : asFun rows (5 * o) ≡ st .row o .process * 2 ^ 24 + st .row o .kind * 2 ^ 16 + cond (st .row o .finished) 1 0 * 2 ^ 8 + st .row o .contention
+      first-number = ap (asFun rows) (sym (add-zero (5 * o))) ∙ A .keeps .rows o 0 started (omega arith)
+
+      one-small : (t : Bool) → cond t 1 0 ≤ 1
+      one-small true = omega arith
+      one-small false = omega arith
+
+      at-row : RoomToStep (asFun rows) o
+      at-row =
+          record {
+            row = omega (arith, started, A .good .few);
+            head = omega (arith, first-number, one-small (st .row o .finished), A .good .owners o, A .good .fits o .kind, A .good .fits o .contention);
+            steps = omega (arith, A .keeps .rows o 1 started (omega arith), A .good .steps o, A .place, short);
+            seconds = omega (arith, A .keeps .rows o 4 started (omega arith), A .good .seconds o, A .place, short);
+          }
+
+  pub can-keep : CanKeep h p (getD ps p idleRecord) writes queue rows l
+  can-keep =
+      record {
+        low = A .good .low;
+        high = A .good .high;
+        process = omega (arith, inside, pow-mono (A .good .high));
+        step = omega (arith, can-step h at st vals links ps set₀ m k A p inside acting .last, last-small h (getD ps p idleRecord .adds) (A .good .high));
+        written = room-to-write;
+        queue = can-list;
+        waiting = λ two. omega (arith, sizes-less (sym its-step ∙ two), A .good .few);
+        ranks = omega (arith, sizes, A .good .few);
+        row = room-in-row;
+      }

@@ -1,0 +1,43 @@
+-- `check` meets its contract: the header's refusal, or how the run ends.
+use native.Mathlib.Omega.{arith}
+use mathlib.Core.Path.{sym, ap, _∙_}
+use Rattle.meaning.specs.Layout.{height}
+use Rattle.meaning.specs.Report.{checkWith, checkAnswer}
+use Rattle.rules.proofs.Laws.{header-passes}
+use Rattle.engine.specs.Ends.{answerOf}
+use Rattle.engine.proofs.Answers.{head-refused, head-passed, check-ends}
+use borrow.Author.Needs.{needs}
+use Rattle.engine.proofs.check.Statement.{statement}
+use Rattle.engine.proofs.check.Tie as tie
+
+header-requires : tie.Need-header-requires
+header-requires c κs = search needs
+
+returns : tie.Need-returns
+unfolding checkAnswer checkWith answerOf
+returns c =
+    ap checkWith (sym (head-refused _ _ (c .before .header .ensures) (c .if1 .taken)))
+
+shared-slice-read-run : tie.Need-shared-slice-read-run
+shared-slice-read-run c =
+    header-passes _ (sym (c .before .before .header .ensures) ∙ c .before .if1 .left) .enough
+
+cast-run : tie.Need-cast-run
+cast-run c =
+    omega (arith, c .shared-slice-known2 .given 5)
+
+run-requires : tie.Need-run-requires
+unfolding height
+run-requires c κs =
+    let w = header-passes _ (sym (c .before .before .before .header .ensures) ∙ c .before .before .if1 .left) in
+    (w .high, w .low, w .short)
+
+returns-2 : tie.Need-returns-2
+unfolding checkAnswer answerOf height
+returns-2 c =
+    check-ends _ _ _ (c .run .ensures) ∙ ap checkWith (sym (head-passed _ _ (c .before .before .before .before .header .ensures) (c .before .before .before .if1 .left)))
+
+pub check-spec : {M : Type 1} → statement M
+check-spec =
+    tie.close
+    (tie.spec header-requires returns shared-slice-read-run cast-run run-requires returns-2)

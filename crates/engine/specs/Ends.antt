@@ -1,0 +1,49 @@
+-- How a run ends, and what check and report promise.
+use Prim.Native.Nat.{ℕ, _+_, _*_, _≤_, _<_}
+use mathlib.Core.Path.{_≡_}
+use mathlib.Core.Bool.{Bool, true, false}
+use mathlib.Core.List.{List}
+use lib.ListN.{getD}
+use Rattle.recording.specs.Record.{Answer}
+use Rattle.recording.specs.declared.Event.{Event}
+use Rattle.recording.specs.declared.Event.the-variants.{Step, Read, Add}
+use Rattle.meaning.specs.Tree.{root}
+use Rattle.meaning.specs.Run.{State, Outcome, refused, accepted}
+use Rattle.meaning.specs.Report.{reportAnswer, reportBuffer}
+use Rattle.meaning.specs.TakenIn.{rank}
+use Rattle.rows.specs.Rows.{rowNumbers}
+use Rattle.rows.proofs.Laws.{RowFits}
+use Rattle.engine.specs.declared.Ended.{Ended}
+use Rattle.engine.specs.declared.Reply.{Reply}
+
+-- the answer in document 01's numbers
+unfoldable pub answerOf : Reply → Answer
+answerOf r = record { number = r .number; place = r .place }
+
+-- what a start record starts
+unfoldable pub addsOf : Event → Bool
+addsOf (Step p) = false
+addsOf (Read p) = false
+addsOf (Add p d) = true
+
+unfoldable pub deltaOf : Event → ℕ
+deltaOf (Step p) = 0
+deltaOf (Read p) = 0
+deltaOf (Add p d) = d
+
+-- a run that ends with a refusal
+pub record Refuses (number place : ℕ) (r : Ended) : Type 0 where
+  pub its : r .number ≡ number
+  pub there : r .place ≡ place
+
+-- A run ends as the definition's: with the refusal, or with the counter, the operations and their rows' numbers.
+pub data Ends (h : ℕ) (rows : ℕ → ℕ) (r : Ended) : Outcome → Type 0 where
+  refuses : {a : Answer} → r .number ≡ a .number → r .place ≡ a .place → 1 ≤ a .number → Ends h rows r (refused a)
+  accepts : {st : State} → r .number ≡ 0 → r .place ≡ 0 → r .operations ≡ st .operations → r .counter ≡ st .memory .value root → st .operations ≤ 1024
+      → ((i j : ℕ) → i < st .operations → j < 5 → rows (5 * i + j) ≡ getD (rowNumbers (st .row i) (rank h (st .history) i)) j 0)
+      → ((i : ℕ) → i < st .operations → RowFits (st .row i)) → Ends h rows r (accepted st)
+
+-- what report promises: the answer, and every byte of the buffer
+pub record Reports (s before after : List ℕ) (r : Reply) : Type 0 where
+  pub answer : answerOf r ≡ reportAnswer s before
+  pub buffer : after ≡ reportBuffer s before

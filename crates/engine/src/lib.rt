@@ -1,0 +1,195 @@
+// The replay: check and report, proved equal to the definitions for every byte string.
+use listing::Listed;
+use machine::Process;
+use recording::Cut;
+use recording::Event;
+ghost use Prim.Native.Nat.{_+_, _*_, _^_, _≤_, _<_};
+ghost use mathlib.Core.Path.{_≡_};
+ghost use lib.ListN.{length};
+ghost use Rattle.sets.specs.Processes.{countBelow, isIn};
+ghost use Rattle.arrays.specs.Arrays.{asFun};
+ghost use Rattle.meaning.specs.Layout.{recordsOf, height};
+ghost use Rattle.meaning.specs.Run.{initial, kindOf, run as runOf};
+ghost use Rattle.meaning.specs.Report.{checkAnswer};
+ghost use Rattle.rows.specs.Rows.{withRow, freshNumbers};
+ghost use Rattle.engine.specs.Ends.{answerOf, addsOf, deltaOf, Refuses, Ends, Reports};
+
+// A refusal number, or 0, and a place.
+#[repr(C)]
+pub struct Reply {
+    pub number: u32,
+    pub place: u32,
+}
+
+// The reply, and for an accepted recording its operations and its counter.
+pub struct Ended {
+    pub number: u32,
+    pub place: u32,
+    pub operations: u32,
+    pub counter: u32,
+}
+
+fn refused(number: u32, place: usize) -> Ended
+    requires { ⌜ place < 2 ^ 32 ⌝ }
+    ensures { λ r. ⌜ Refuses number place r ⌝ }
+{
+    Ended {
+        number,
+        place: place as u32,
+        operations: 0,
+        counter: 0,
+    }
+}
+
+fn adds(e: Event) -> bool
+    ensures { λ r. ⌜ r ≡ addsOf e ⌝ }
+{
+    match e {
+        Event::Step(_) => false,
+        Event::Read(_) => false,
+        Event::Add(_, _) => true,
+    }
+}
+
+fn delta_of(e: Event) -> u32
+    ensures { λ r. ⌜ r ≡ deltaOf e ⌝ }
+{
+    match e {
+        Event::Step(_) => 0,
+        Event::Read(_) => 0,
+        Event::Add(_, d) => d,
+    }
+}
+
+// The row of operation m, with the contention right after its start.
+fn start_row(rows: &mut [u32; 5120], m: u32, p: usize, adds: bool, busy: u64)
+    requires { ⌜ (m < 1024) × (p < 64) ⌝ }
+    ensures { λ r. ⌜ asFun (now (rows .exit)) ≡ withRow (asFun (now (rows .entry))) m (freshNumbers p (kindOf adds) (countBelow 64 (isIn busy))) ⌝ }
+{
+    let kind: u8 = if adds { 3 } else { 2 };
+    rows::start_row(rows, m as usize, p as u8, kind, sets::count(busy) as u8);
+}
+
+// The run over the records of a recording whose header has passed.
+fn run(s: &[u8], h: u32, rows: &mut [u32; 5120]) -> Ended
+    requires { ⌜ (1 ≤ h) × (h ≤ 6) × (length (now s) ≤ 65536) ⌝ }
+    ensures { λ r. ⌜ Ends h (asFun (now (rows .exit))) r (runOf h initial (recordsOf (now (s .entry)))) ⌝ }
+{
+    let mut vals = [0u32; 128];
+    let mut links = [0u64; 64];
+    let mut counts = [[0u16; 64]; 6];
+    let mut written = [0u16; 64];
+    let mut read = [[0u16; 64]; 64];
+    let mut queue = [0u16; 1024];
+    let mut turns = [0u16; 1024];
+    let idle = Process::idle();
+    let mut procs = [idle; 64];
+    let mut listed = Listed {
+        waiting: 0,
+        rank: 0,
+    };
+    let mut busy = sets::empty();
+    let mut m: u32 = 0;
+    let mut at: usize = 6;
+    loop {
+        match recording::cut_at(s, at) {
+            Cut::End => {
+                return Ended {
+                    number: 0,
+                    place: 0,
+                    operations: m,
+                    counter: vals[1],
+                };
+            }
+            Cut::Broken(place) => {
+                return refused(6, place);
+            }
+            Cut::Found(e, next) => {
+                let p = rules::process_of(e);
+                let k = rules::refusal(h, e, sets::has(busy, p), m);
+                if k != 0 {
+                    return refused(k, at);
+                }
+                if rules::is_start(e) {
+                    procs[p] = Process::started(m, adds(e), delta_of(e));
+                    busy = sets::put(busy, p);
+                    start_row(rows, m, p, adds(e), busy);
+                    m = m + 1;
+                } else {
+                    let r = procs[p];
+                    let after = r.next(h, p, &mut vals, &mut links);
+                    listed = keeping::take_step(
+                        &mut counts,
+                        &mut written,
+                        &mut read,
+                        &mut queue,
+                        &mut turns,
+                        rows,
+                        h,
+                        p,
+                        r,
+                        after,
+                        listed,
+                    );
+                    procs[p] = after;
+                    if after.step == 0 {
+                        busy = sets::cut(busy, p);
+                    }
+                }
+                at = next;
+            }
+        }
+    }
+}
+
+// What report would answer with room enough.
+pub fn check(s: &[u8]) -> Reply
+    ensures { λ r. ⌜ answerOf r ≡ checkAnswer (now (s .entry)) ⌝ }
+{
+    let k = rules::header(s);
+    if k != 0 {
+        return Reply {
+            number: k,
+            place: 0,
+        };
+    }
+    let mut rows = [0u32; 5120];
+    let e = run(s, s[5] as u32, &mut rows);
+    Reply {
+        number: e.number,
+        place: e.place,
+    }
+}
+
+// The answer, and on acceptance the report at the front of out.
+pub fn report(s: &[u8], out: &mut [u8]) -> Reply
+    ensures { λ r. ⌜ Reports (now (s .entry)) (now (out .entry)) (now (out .exit)) r ⌝ }
+{
+    let k = rules::header(s);
+    if k != 0 {
+        return Reply {
+            number: k,
+            place: 0,
+        };
+    }
+    let mut rows = [0u32; 5120];
+    let e = run(s, s[5] as u32, &mut rows);
+    if e.number != 0 {
+        return Reply {
+            number: e.number,
+            place: e.place,
+        };
+    }
+    let m = e.operations as usize;
+    if out.len() < 9 + 20 * m {
+        return Reply {
+            number: 11,
+            place: (9 + 20 * m) as u32,
+        };
+    }
+    rows::lay_report(out, m, e.counter, &rows);
+    Reply {
+        number: 0,
+        place: 0,
+    }
+}

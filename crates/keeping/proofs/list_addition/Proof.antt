@@ -1,0 +1,97 @@
+-- `list_addition`: a leaf write joins the queue, a store at node 1 lists, and every other step leaves it.
+use native.Mathlib.Omega.{arith}
+use borrow.Author.Needs.{needs}
+use Rattle.arrays.specs.Arrays.{asFun}
+use Rattle.keeping.proofs.Laws.{at-root, below-root, not-stored}
+use Rattle.keeping.proofs.Steps.{joins, leaves, clears}
+use Rattle.keeping.proofs.list_addition.Statement.{statement}
+use Rattle.keeping.proofs.list_addition.Tie as tie
+
+mul-wait : tie.Need-mul-wait
+mul-wait c = search needs
+
+element-copy-out-wait : tie.Need-element-copy-out-wait
+element-copy-out-wait c = search needs
+
+wait-requires : tie.Need-wait-requires
+wait-requires c κs =
+    let can = c .before .before .before .before .pre in
+    (can .waiting (c .before .before .before .if1 .taken), can .row .row, can .process)
+
+take-in-requires : tie.Need-take-in-requires
+take-in-requires c κs = search needs
+
+add-t18 : tie.Need-add-t18
+add-t18 c = search needs
+
+returns : tie.Need-returns
+unfolding asFun
+returns c =
+    let can = c .before .before .before .before .before .before .before .before .before .before .pre in
+    let wait = c .before .before .before .before .before .wait .ensures in
+    joins _ _ _ _ _ _ _ _ _ _ _ _ _ _ (c .before .take-in .ensures) _ _
+    (c .before .before .before .before .before .before .before .before .before .if1 .taken) (can .low) (can .process) (wait .0) (wait .1)
+
+take-in-requires-2 : tie.Need-take-in-requires-2
+take-in-requires-2 c κs = search needs
+
+mul-if3 : tie.Need-mul-if3
+mul-if3 c = search needs
+
+add-if3 : tie.Need-add-if3
+add-if3 c = search needs
+
+sub-level : tie.Need-sub-level
+sub-level c = search needs
+
+cast-level : tie.Need-cast-level
+cast-level c = search needs
+
+mul-list-in : tie.Need-mul-list-in
+mul-list-in c = search needs
+
+element-copy-out-list-in : tie.Need-element-copy-out-list-in
+element-copy-out-list-in c = search needs
+
+list-in-requires : tie.Need-list-in-requires
+list-in-requires c κs = search needs
+
+returns-2 : tie.Need-returns-2
+returns-2 c =
+    let root = c .before .before .before .before .before in
+    let took = c .before .before .before .before .before .before .before in
+    let first = took .before .before .before .before in
+    clears _ _ _ _ _ _ _ _ _ _ _ _ _ _ (took .take-in2 .ensures) _ _ _ (first .if1 .left) (first .before .pre .low)
+    (at-root _ _ (root .before .if2 .taken) (omega (arith, root .if3 .taken))) (c .list-in .ensures)
+
+returns-3 : tie.Need-returns-3
+returns-3 c =
+    leaves _ _ _ _ _ _ _ _ _ _ _ _ _ _ (c .before .before .take-in2 .ensures) (c .before .before .before .before .before .before .if1 .left)
+    (below-root _ _ _ (omega (arith, c .if3 .left)))
+
+returns-4 : tie.Need-returns-4
+returns-4 c =
+    leaves _ _ _ _ _ _ _ _ _ _ _ _ _ _ (c .before .take-in2 .ensures) (c .before .before .before .before .before .if1 .left)
+    (not-stored _ _ (c .if2 .left))
+
+pub list-addition-spec : {M : Type 1} → statement M
+list-addition-spec =
+    tie.close
+    (tie.spec
+    mul-wait
+    element-copy-out-wait
+    wait-requires
+    take-in-requires
+    add-t18
+    returns
+    take-in-requires-2
+    mul-if3
+    add-if3
+    sub-level
+    cast-level
+    mul-list-in
+    element-copy-out-list-in
+    list-in-requires
+    returns-2
+    returns-3
+    returns-4)

@@ -1,0 +1,324 @@
+-- What holds of the state after any accepted records: who is busy with what, that operations are told apart, and that no operation makes
+-- its one leaf write or its one root read twice.
+use Prim.Native.Nat.{ℕ, zero, suc, _+_, _*_, _^_, _≤_, _<_}
+use native.Mathlib.Omega.{arith}
+use mathlib.Core.Path.{_≡_, refl, sym, ap, _∙_, subst}
+use mathlib.Core.Logic.{_⊎_, inl, inr, ⊎-elim}
+use mathlib.Core.Bool.{Bool, true, false, cond}
+use mathlib.Core.List.{List, [], _∷_}
+use lib.ListN.{length}
+use lib.Dec.{eqb}
+use lib.Pow.{pow-mono}
+use borrow.Author.Tests.{ne-eqb}
+use Rattle.sets.specs.Processes.{countBelow}
+use Rattle.sets.proofs.Laws.{count-le}
+use Rattle.arrays.proofs.Laws.{upd-cases, upd-same, upd-other}
+use Rattle.meaning.specs.Tree.{processes}
+use Rattle.meaning.specs.Access.{Access, starts, readsRoot, readsLeaf, writesLeaf, links, readsLeft, readsRight, stores, Attempt, first, second, isLeafWrite, isRootRead, isSecondLink}
+use Rattle.meaning.specs.Steps.{upd, Memory, Process, idle as idleProcess, Effect, effect, accessOf, nextRecord, atStep}
+use Rattle.meaning.specs.Run.{Entry, Row, State, blank, initial, busy, started, kindOf, newRow, start, rowAfter, takeStep}
+use Rattle.meaning.specs.TakenIn.{inLeaf}
+use Rattle.taken.proofs.Agree.{Once, none, more}
+use Rattle.rows.proofs.Laws.{RowFits}
+use Rattle.machine.specs.Nexts.{lastStep}
+use Rattle.machine.proofs.Laws.{job, effect-keeps, steps-long, within-le}
+use Rattle.ledger.proofs.Turns.{CanTurn, Turn, root, leaf, write, link, leftward, rightward, store, turn, Next, after-root, after-leaf, after-write, after-link, after-left, after-right, after-store, next, AtLink, idle, linking}
+use Rattle.ledger.proofs.Did.{did, did-leaf, did-other, did-not, did-cases}
+
+pub false-true : false ≡ true → ⊥
+false-true e = let z : _≡_ {A = ℕ} 0 1 = cc in omega arith
+
+at-most-one : (t : Bool) → cond t 1 0 ≤ 1
+at-most-one true = omega arith
+at-most-one false = omega arith
+
+pub record Good (h : ℕ) (st : State) : Type 0 where
+  pub low : 1 ≤ h
+  pub high : h ≤ 6
+  -- no process beyond the tree is busy, and each step number is of its operation's list
+  pub beyond : (p : ℕ) → 2 ^ h ≤ p → st .process p .step ≡ 0
+  pub range : (p : ℕ) → st .process p .step ≤ lastStep h (st .process p .adds)
+  -- a busy process has an operation of its own, which is not finished
+  pub owns : (p : ℕ) → 1 ≤ st .process p .step → st .process p .operation < st .operations
+  pub apart : (p q : ℕ) → 1 ≤ st .process p .step → 1 ≤ st .process q .step → st .process p .operation ≡ st .process q .operation → p ≡ q
+  pub unfinished : (p : ℕ) → 1 ≤ st .process p .step → st .row (st .process p .operation) .finished ≡ false
+  pub few : st .operations ≤ 1024
+  -- the history speaks of operations that have started; an addition has not written before step 3, and no busy operation has read the root
+  pub known : (kind : Access → Bool) (i : ℕ) → did kind i (st .history) ≡ true → i < st .operations
+  pub fresh : (p : ℕ) → 1 ≤ st .process p .step → (st .process p .adds ≡ true → st .process p .step ≤ 2) → did isLeafWrite (st .process p .operation) (st .history) ≡ false
+  pub unread : (p : ℕ) → 1 ≤ st .process p .step → did isRootRead (st .process p .operation) (st .history) ≡ false
+  pub kinds : (i : ℕ) → did isLeafWrite i (st .history) ≡ true → did isRootRead i (st .history) ≡ false
+  pub once : Once (st .history)
+  -- the rows' numbers are small
+  pub fits : (i : ℕ) → RowFits (st .row i)
+  pub owners : (i : ℕ) → st .row i .process < 64
+  pub steps : (i : ℕ) → st .row i .steps ≤ length (st .history)
+  pub seconds : (i : ℕ) → st .row i .seconds ≤ length (st .history)
+
+pub good-initial : (h : ℕ) → 1 ≤ h → h ≤ 6 → Good h initial
+unfolding initial idleProcess blank did
+good-initial h low high =
+    record {
+      low = low;
+      high = high;
+      beyond = λ p b. refl;
+      range = λ p. omega arith;
+      owns = λ p b. omega arith;
+      apart = λ p q b c e. omega arith;
+      unfinished = λ p b. refl;
+      few = omega arith;
+      known = λ kind i e. absurd (false-true e);
+      fresh = λ p b f. refl;
+      unread = λ p b. refl;
+      kinds = λ i e. refl;
+      once = none;
+      fits = λ i. record { process = omega arith; kind = omega arith; contention = omega arith };
+      owners = λ i. omega arith;
+      steps = λ i. omega arith;
+      seconds = λ i. omega arith;
+    }
+
+-- ---- a start record
+
+module _ (h p : ℕ) (adds : Bool) (delta : ℕ) (st : State) (g : Good h st) (inside : p < 2 ^ h) (free : st .process p .step ≡ 0) (room : st .operations < 1024) where
+  -- the process's new record, and those of the others
+  pub by-process : (P : ℕ → Process → Type 0) → P p (started (st .operations) adds delta) → ((q : ℕ) → (q ≡ p → ⊥) → P q (st .process q)) → (q : ℕ) → P q (start h p adds delta st .process q)
+  unfolding start
+  by-process P new old q =
+      upd-cases (st .process) p (started (st .operations) adds delta) (P q) q (λ e. subst (λ (x : ℕ). P x (started (st .operations) adds delta)) (sym e) new) (old q)
+
+  -- the history's new entry is no access
+  still : (kind : Access → Bool) → kind starts ≡ false → (i : ℕ) → did kind i (start h p adds delta st .history) ≡ did kind i (st .history)
+  unfolding start
+  still kind k i = did-not kind i _ (st .history) k
+
+  -- nothing is known of the new operation
+  new : (kind : Access → Bool) → did kind (st .operations) (st .history) ≡ false
+  new kind = go (did kind (st .operations) (st .history)) refl
+    where
+      go : (t : Bool) → did kind (st .operations) (st .history) ≡ t → t ≡ false
+      go true e = absurd (omega (arith, g .known kind (st .operations) e))
+      go false e = refl
+
+  started-row : (i : ℕ) (P : Row → Type 0) → P (newRow h p adds delta (start h p adds delta st .process) (length (st .history))) → ((i ≡ st .operations → ⊥) → P (st .row i)) → P (start h p adds delta st .row i)
+  unfolding start
+  started-row i P now before = upd-cases (st .row) (st .operations) _ P i (λ e. now) before
+
+  new-row-fits : RowFits (newRow h p adds delta (start h p adds delta st .process) (length (st .history)))
+  unfolding newRow kindOf processes
+  new-row-fits =
+      record {
+        process = omega (arith, pow-mono (g .high));
+        kind = small adds;
+        contention = omega (arith, pow-mono (g .high), count-le (2 ^ h) (busy (start h p adds delta st .process)));
+      }
+    where
+      small : (t : Bool) → cond t 3 2 < 256
+      small true = omega arith
+      small false = omega arith
+
+  pub good-start : Good h (start h p adds delta st)
+  unfolding start started newRow isLeafWrite isRootRead lastStep
+  good-start =
+      record {
+        low = g .low;
+        high = g .high;
+        beyond = by-process (λ q r. 2 ^ h ≤ q → r .step ≡ 0) (λ b. absurd (omega arith)) (λ q n b. g .beyond q b);
+        range = by-process (λ q r. r .step ≤ lastStep h (r .adds)) (first-step adds) (λ q n. g .range q);
+        owns = by-process (λ q r. 1 ≤ r .step → r .operation < suc (st .operations)) (λ b. omega arith) (λ q n b. omega (arith, g .owns q b));
+        apart = by-process (λ x r. (y : ℕ) → 1 ≤ r .step → 1 ≤ start h p adds delta st .process y .step → r .operation ≡ start h p adds delta st .process y .operation → x ≡ y)
+            (by-process (λ y r. 1 ≤ 1 → 1 ≤ r .step → st .operations ≡ r .operation → p ≡ y) (λ b c e. refl) (λ y n b c e. absurd (omega (arith, g .owns y c))))
+            (λ x n. by-process (λ y r. 1 ≤ st .process x .step → 1 ≤ r .step → st .process x .operation ≡ r .operation → x ≡ y) (λ b c e. absurd (omega (arith, g .owns x b))) (λ y m b c e. g .apart x y b c e));
+        unfinished = by-process (λ q r. 1 ≤ r .step → start h p adds delta st .row (r .operation) .finished ≡ false)
+            (λ b. started-row (st .operations) (λ w. w .finished ≡ false) refl (λ n. absurd (n refl)))
+            (λ q n b. started-row (st .process q .operation) (λ w. w .finished ≡ false) refl (λ m. g .unfinished q b));
+        few = room;
+        known = λ kind i e. ⊎-elim (λ d. omega (arith, g .known kind i d)) (λ d. omega (arith, d .1)) (did-cases kind i _ (st .history) e);
+        fresh = by-process (λ q r. 1 ≤ r .step → (r .adds ≡ true → r .step ≤ 2) → did isLeafWrite (r .operation) (start h p adds delta st .history) ≡ false)
+            (λ b f. still isLeafWrite refl (st .operations) ∙ new isLeafWrite)
+            (λ q n b f. still isLeafWrite refl (st .process q .operation) ∙ g .fresh q b f);
+        unread = by-process (λ q r. 1 ≤ r .step → did isRootRead (r .operation) (start h p adds delta st .history) ≡ false)
+            (λ b. still isRootRead refl (st .operations) ∙ new isRootRead)
+            (λ q n b. still isRootRead refl (st .process q .operation) ∙ g .unread q b);
+        kinds = λ i e. still isRootRead refl i ∙ g .kinds i (sym (still isLeafWrite refl i) ∙ e);
+        once = more (λ e. absurd (false-true e)) (g .once);
+        fits = λ i. started-row i RowFits new-row-fits (λ n. g .fits i);
+        owners = λ i. started-row i (λ w. w .process < 64) (omega (arith, pow-mono (g .high))) (λ n. g .owners i);
+        steps = λ i. started-row i (λ w. w .steps ≤ suc (length (st .history))) (omega arith) (λ n. omega (arith, g .steps i));
+        seconds = λ i. started-row i (λ w. w .seconds ≤ suc (length (st .history))) (omega arith) (λ n. omega (arith, g .seconds i));
+      }
+    where
+      first-step : (t : Bool) → 1 ≤ lastStep h t
+      first-step true = omega arith
+      first-step false = omega arith
+
+-- ---- a step
+
+-- the facts of one step by a busy process p: its record before and after, and its access
+pub record Stepping (h p : ℕ) (st : State) : Type 0 where
+  pub good : Good h st
+  pub inside : p < 2 ^ h
+  pub acts : 1 ≤ st .process p .step
+
+abbrev pub accessBy : ℕ → ℕ → State → Access
+accessBy h p st = accessOf h p (st .process p)
+
+abbrev pub effectBy : ℕ → ℕ → State → Effect
+effectBy h p st = effect p (st .process p) (st .memory) (accessBy h p st)
+
+abbrev pub recordAfter : ℕ → ℕ → State → Process
+recordAfter h p st = nextRecord h p (st .process p) (effectBy h p st)
+
+-- what the step adds to the history
+abbrev pub entryBy : ℕ → ℕ → State → Entry
+entryBy h p st = record { process = p; operation = st .process p .operation; access = accessBy h p st; stored = effectBy h p st .stored }
+
+pub history-step : (h p : ℕ) (st : State) → takeStep h p st .history ≡ entryBy h p st ∷ st .history
+unfolding takeStep
+history-step h p st = refl
+
+module _ (h p : ℕ) (st : State) (s : Stepping h p st) where
+  g : Good h st
+  g = s .good
+
+  pub turns : Turn h p (st .process p) (accessBy h p st)
+  turns = turn h p (st .process p) (record { low = s .good .low; high = s .good .high; process = s .inside; busy = s .acts; last = s .good .range p })
+
+  pub goes : Next (st .process p) (recordAfter h p st .step) (accessBy h p st)
+  goes = next h p (st .process p) (st .memory) (s .good .low) turns
+
+  pub same-job : job (recordAfter h p st) ≡ job (st .process p)
+  unfolding nextRecord atStep
+  same-job = effect-keeps p (st .process p) (st .memory) (accessBy h p st)
+
+  pub same-operation : recordAfter h p st .operation ≡ st .process p .operation
+  same-operation = ap (λ (q : ℕ × Bool × ℕ). q .0) same-job
+
+  pub same-adds : recordAfter h p st .adds ≡ st .process p .adds
+  same-adds = ap (λ (q : ℕ × Bool × ℕ). q .1) same-job
+
+  in-range : recordAfter h p st .step ≤ lastStep h (recordAfter h p st .adds)
+  unfolding nextRecord atStep
+  in-range = rw (same-adds, ← steps-long h p (st .process p)) (within-le _ _)
+
+  pub by-stepper : (P : ℕ → Process → Type 0) → P p (recordAfter h p st) → ((q : ℕ) → (q ≡ p → ⊥) → P q (st .process q)) → (q : ℕ) → P q (takeStep h p st .process q)
+  unfolding takeStep
+  by-stepper P now before q =
+      upd-cases (st .process) p (recordAfter h p st) (P q) q (λ e. subst (λ (x : ℕ). P x (recordAfter h p st)) (sym e) now) (before q)
+
+  -- another busy process has another operation
+  other : (q : ℕ) → (q ≡ p → ⊥) → 1 ≤ st .process q .step → st .process q .operation ≡ st .process p .operation → ⊥
+  other q n b e = n (s .good .apart q p b (s .acts) e)
+
+  did-elsewhere : (kind : Access → Bool) (q : ℕ) → (q ≡ p → ⊥) → 1 ≤ st .process q .step
+      → did kind (st .process q .operation) (takeStep h p st .history) ≡ did kind (st .process q .operation) (st .history)
+  unfolding takeStep
+  did-elsewhere kind q n b = did-other kind (st .process q .operation) (entryBy h p st) (st .history) (other q n b)
+
+  did-still : (kind : Access → Bool) (i : ℕ) → kind (accessBy h p st) ≡ false → did kind i (takeStep h p st .history) ≡ did kind i (st .history)
+  unfolding takeStep
+  did-still kind i n = did-not kind i (entryBy h p st) (st .history) n
+
+  -- the stepping process itself: what its record and its access say of the history
+  own-fresh : {a : Access} → Turn h p (st .process p) a → Next (st .process p) (recordAfter h p st .step) a → accessBy h p st ≡ a
+      → 1 ≤ recordAfter h p st .step → (st .process p .adds ≡ true → recordAfter h p st .step ≤ 2)
+      → did isLeafWrite (st .process p .operation) (takeStep h p st .history) ≡ false
+  unfolding isLeafWrite
+  own-fresh (root e w) (after-root z) eq b f = absurd (omega arith)
+  own-fresh (leaf e w) (after-leaf z) eq b f = did-still isLeafWrite (st .process p .operation) (ap isLeafWrite eq) ∙ s .good .fresh p (s .acts) (λ e. omega arith)
+  own-fresh (write e w) (after-write z) eq b f = absurd (omega (arith, f e))
+  own-fresh (link e c w) (after-link z) eq b f = absurd (omega (arith, f e, c .from))
+  own-fresh (leftward e c w) (after-left z) eq b f = absurd (omega (arith, f e, c .from))
+  own-fresh (rightward e c w) (after-right z) eq b f = absurd (omega (arith, f e, c .from))
+  own-fresh (store e c w) (after-store (idle z)) eq b f = absurd (omega arith)
+  own-fresh (store e c w) (after-store (linking z y)) eq b f = absurd (omega (arith, f e))
+
+  -- a root read ends its operation, and is no addition's
+  root-read-ends : {a : Access} → Turn h p (st .process p) a → Next (st .process p) (recordAfter h p st .step) a → isRootRead a ≡ true
+      → (recordAfter h p st .step ≡ 0) × (st .process p .adds ≡ false)
+  unfolding isRootRead
+  root-read-ends (root e w) (after-root z) k = (z, e)
+  root-read-ends (leaf e w) n k = absurd (false-true k)
+  root-read-ends (write e w) n k = absurd (false-true k)
+  root-read-ends (link e c w) n k = absurd (false-true k)
+  root-read-ends (leftward e c w) n k = absurd (false-true k)
+  root-read-ends (rightward e c w) n k = absurd (false-true k)
+  root-read-ends (store e c w) n k = absurd (false-true k)
+
+  -- a leaf write is an addition's step 2, and no root read
+  leaf-write-is : {a : Access} → Turn h p (st .process p) a → isLeafWrite a ≡ true → (st .process p .step ≡ 2) × (isRootRead a ≡ false)
+  unfolding isLeafWrite isRootRead
+  leaf-write-is (root e w) k = absurd (false-true k)
+  leaf-write-is (leaf e w) k = absurd (false-true k)
+  leaf-write-is (write e w) k = (w, refl)
+  leaf-write-is (link e c w) k = absurd (false-true k)
+  leaf-write-is (leftward e c w) k = absurd (false-true k)
+  leaf-write-is (rightward e c w) k = absurd (false-true k)
+  leaf-write-is (store e c w) k = absurd (false-true k)
+
+  unwritten : isLeafWrite (accessBy h p st) ≡ true → did isLeafWrite (st .process p .operation) (st .history) ≡ false
+  unwritten k = s .good .fresh p (s .acts) (λ e. omega (arith, leaf-write-is turns k .0))
+
+  own-unread : 1 ≤ recordAfter h p st .step → did isRootRead (st .process p .operation) (takeStep h p st .history) ≡ false
+  own-unread b = go (isRootRead (accessBy h p st)) refl
+    where
+      go : (t : Bool) → isRootRead (accessBy h p st) ≡ t → did isRootRead (st .process p .operation) (takeStep h p st .history) ≡ false
+      go true k = absurd (omega (arith, root-read-ends turns goes k .0))
+      go false k = did-still isRootRead (st .process p .operation) k ∙ s .good .unread p (s .acts)
+
+  stepped-row : (i : ℕ) (P : Row → Type 0) → (i ≡ st .process p .operation → P (rowAfter (accessBy h p st) (recordAfter h p st) (length (st .history)) (st .row (st .process p .operation)))) → ((i ≡ st .process p .operation → ⊥) → P (st .row i)) → P (takeStep h p st .row i)
+  unfolding takeStep
+  stepped-row i P now before = upd-cases (st .row) (st .process p .operation) _ P i now before
+
+  kinds-step : (i : ℕ) → did isLeafWrite i (takeStep h p st .history) ≡ true → did isRootRead i (takeStep h p st .history) ≡ false
+  kinds-step i d = ⊎-elim before now (did-cases isLeafWrite i (entryBy h p st) (st .history) (ap (λ (l : List Entry). did isLeafWrite i l) (sym (history-step h p st)) ∙ d))
+    where
+      before : did isLeafWrite i (st .history) ≡ true → did isRootRead i (takeStep h p st .history) ≡ false
+      before w = go (did isRootRead i (takeStep h p st .history)) refl
+        where
+          never : did isRootRead i (st .history) ≡ true → ⊥
+          never k = false-true (sym (s .good .kinds i w) ∙ k)
+
+          its : (isRootRead (accessBy h p st) ≡ true) × (i ≡ st .process p .operation) → ⊥
+          its k = false-true (sym (s .good .fresh p (s .acts) (λ e. absurd (false-true (sym (root-read-ends turns goes (k .0) .1) ∙ e)))) ∙ rw (← k .1) w)
+
+          go : (t : Bool) → did isRootRead i (takeStep h p st .history) ≡ t → t ≡ false
+          go true e =
+              absurd (⊎-elim never its (did-cases isRootRead i (entryBy h p st) (st .history) (ap (λ (l : List Entry). did isRootRead i l) (sym (history-step h p st)) ∙ e)))
+          go false e = refl
+
+      now : (isLeafWrite (accessBy h p st) ≡ true) × (i ≡ st .process p .operation) → did isRootRead i (takeStep h p st .history) ≡ false
+      now w = did-still isRootRead i (leaf-write-is turns (w .0) .1) ∙ rw (w .1) (s .good .unread p (s .acts))
+
+  pub good-step : Good h (takeStep h p st)
+  unfolding takeStep rowAfter
+  good-step =
+      record {
+        low = s .good .low;
+        high = s .good .high;
+        beyond = by-stepper (λ q r. 2 ^ h ≤ q → r .step ≡ 0) (λ b. absurd (omega (arith, s .inside))) (λ q n b. s .good .beyond q b);
+        range = by-stepper (λ q r. r .step ≤ lastStep h (r .adds)) in-range (λ q n. s .good .range q);
+        owns = by-stepper (λ q r. 1 ≤ r .step → r .operation < st .operations) (λ b. rw same-operation (s .good .owns p (s .acts))) (λ q n b. s .good .owns q b);
+        apart = by-stepper (λ x r. (y : ℕ) → 1 ≤ r .step → 1 ≤ takeStep h p st .process y .step → r .operation ≡ takeStep h p st .process y .operation → x ≡ y)
+            (by-stepper (λ y r. 1 ≤ recordAfter h p st .step → 1 ≤ r .step → recordAfter h p st .operation ≡ r .operation → p ≡ y) (λ b c e. refl)
+            (λ y n b c e. s .good .apart p y (s .acts) c (sym same-operation ∙ e)))
+            (λ x n. by-stepper (λ y r. 1 ≤ st .process x .step → 1 ≤ r .step → st .process x .operation ≡ r .operation → x ≡ y)
+            (λ b c e. s .good .apart x p b (s .acts) (e ∙ same-operation)) (λ y m b c e. s .good .apart x y b c e));
+        unfinished = by-stepper (λ q r. 1 ≤ r .step → takeStep h p st .row (r .operation) .finished ≡ false)
+            (λ b. stepped-row (recordAfter h p st .operation) (λ w. w .finished ≡ false) (λ e. ne-eqb (recordAfter h p st .step) 0 (λ z. omega arith)) (λ n. absurd (n same-operation)))
+            (λ q n b. stepped-row (st .process q .operation) (λ w. w .finished ≡ false) (λ e. absurd (other q n b e)) (λ m. s .good .unfinished q b));
+        few = s .good .few;
+        known = λ kind i e. ⊎-elim (λ d. s .good .known kind i d) (λ d. rw (d .1) (s .good .owns p (s .acts))) (did-cases kind i (entryBy h p st) (st .history) e);
+        fresh = by-stepper (λ q r. 1 ≤ r .step → (r .adds ≡ true → r .step ≤ 2) → did isLeafWrite (r .operation) (takeStep h p st .history) ≡ false)
+            (λ b f. rw same-operation (own-fresh turns goes refl b (λ e. f (same-adds ∙ e))))
+            (λ q n b f. did-elsewhere isLeafWrite q n b ∙ s .good .fresh q b f);
+        unread = by-stepper (λ q r. 1 ≤ r .step → did isRootRead (r .operation) (takeStep h p st .history) ≡ false)
+            (λ b. rw same-operation (own-unread b))
+            (λ q n b. did-elsewhere isRootRead q n b ∙ s .good .unread q b);
+        kinds = kinds-step;
+        once = more (λ e. did-leaf (st .process p .operation) (st .history) ∙ unwritten e) (s .good .once);
+        fits = λ i. stepped-row i RowFits (λ e. let w = s .good .fits (st .process p .operation) in record { process = w .process; kind = w .kind; contention = w .contention }) (λ n. s .good .fits i);
+        owners = λ i. stepped-row i (λ w. w .process < 64) (λ e. s .good .owners (st .process p .operation)) (λ n. s .good .owners i);
+        steps = λ i. stepped-row i (λ w. w .steps ≤ suc (length (st .history))) (λ e. omega (arith, s .good .steps (st .process p .operation))) (λ n. omega (arith, s .good .steps i));
+        seconds = λ i. stepped-row i (λ w. w .seconds ≤ suc (length (st .history))) (λ e. omega (arith, s .good .seconds (st .process p .operation), at-most-one (isSecondLink (accessBy h p st)))) (λ n. omega (arith, s .good .seconds i));
+      }

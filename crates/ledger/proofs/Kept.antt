@@ -1,0 +1,126 @@
+-- What `keep` leaves of a list, and where operations stand in one.
+use Prim.Native.Nat.{ℕ, zero, suc, _+_}
+use native.Mathlib.Omega.{arith}
+use mathlib.Core.Path.{_≡_, refl, sym, ap, _∙_, subst}
+use mathlib.Core.Logic.{_⊎_, inl, inr, ⊎-elim}
+use mathlib.Core.Bool.{Bool, true, false, not, cond, _&&_}
+use mathlib.Core.List.{List, [], _∷_, _++_, map, List·Memᴰ, List·Memᴰ·head, List·Memᴰ·tail, List·Memᴰ·append-cases, List·Memᴰ·eq-of-singleton, List·Memᴰ·not-nil}
+use lib.ListN.{length}
+use lib.Dec.{eqb}
+use borrow.Author.Tests.{eqb-true, eqb-false, ne-eqb, eq-eqb}
+use Rattle.meaning.specs.TakenIn.{keep, further, positionOf}
+use Rattle.taken.specs.CountIn.{Waiter}
+use Rattle.listing.specs.Queue.{operationsOf}
+use Rattle.listing.proofs.Laws.{Distinct, nothing, another, listed-some}
+
+module _ {A : Type 0} where
+  -- an element that is kept is in the list and passes
+  pub mem-keep : (p : A → Bool) (l : List A) {a : A} → List·Memᴰ a (keep p l) → List·Memᴰ a l × (p a ≡ true)
+  unfolding keep
+  mem-keep p (x ∷ l) {a} m = go (p x) refl (λ (n : List·Memᴰ a (keep p l)). mem-keep p l n) m
+    where
+      go : (t : Bool) → p x ≡ t → (List·Memᴰ a (keep p l) → List·Memᴰ a l × (p a ≡ true)) → List·Memᴰ a (cond t (x ∷ keep p l) (keep p l)) → List·Memᴰ a (x ∷ l) × (p a ≡ true)
+      go true e ih (List·Memᴰ·head d) = (List·Memᴰ·head d, ap p d ∙ e)
+      go true e ih (List·Memᴰ·tail n) = let r = ih n in (List·Memᴰ·tail (r .0), r .1)
+      go false e ih n = let r = ih n in (List·Memᴰ·tail (r .0), r .1)
+  mem-keep p [] m = absurd (List·Memᴰ·not-nil m)
+
+  -- two tests that agree on the list keep the same
+  pub keep-same : (p q : A → Bool) (l : List A) → ((a : A) → List·Memᴰ a l → p a ≡ q a) → keep p l ≡ keep q l
+  unfolding keep
+  keep-same p q [] e = refl
+  keep-same p q (x ∷ l) e = rw (e x (List·Memᴰ·head refl), keep-same p q l (λ a m. e a (List·Memᴰ·tail m)))
+
+  -- two tests after one another
+  pub keep-keep : (p q : A → Bool) (l : List A) → keep p (keep q l) ≡ keep (λ a. p a && q a) l
+  unfolding keep
+  keep-keep p q [] = refl
+  keep-keep p q (x ∷ l) = go (q x) (p x) refl (keep-keep p q l)
+    where
+      go : (t u : Bool) → p x ≡ u → keep p (keep q l) ≡ keep (λ a. p a && q a) l
+          → keep p (cond t (x ∷ keep q l) (keep q l)) ≡ cond (u && t) (x ∷ keep (λ a. p a && q a) l) (keep (λ a. p a && q a) l)
+      go true true d e = rw d (ap (λ (m : List A). x ∷ m) e)
+      go true false d e = rw d e
+      go false true d e = e
+      go false false d e = e
+
+  pub keep-all : (p : A → Bool) (l : List A) → ((a : A) → List·Memᴰ a l → p a ≡ true) → keep p l ≡ l
+  unfolding keep
+  keep-all p [] e = refl
+  keep-all p (x ∷ l) e = rw (e x (List·Memᴰ·head refl)) (ap (λ (m : List A). x ∷ m) (keep-all p l (λ a m. e a (List·Memᴰ·tail m))))
+
+  pub keep-none : (p : A → Bool) (l : List A) → ((a : A) → List·Memᴰ a l → p a ≡ false) → keep p l ≡ []
+  unfolding keep
+  keep-none p [] e = refl
+  keep-none p (x ∷ l) e = rw (e x (List·Memᴰ·head refl)) (keep-none p l (λ a m. e a (List·Memᴰ·tail m)))
+
+-- ---- operations of a list of waiters
+
+pub mem-operations : {i : ℕ} (l : List Waiter) → List·Memᴰ i (operationsOf l) → (w : Waiter) × List·Memᴰ w l × (w .operation ≡ i)
+unfolding operationsOf
+mem-operations [] m = absurd (List·Memᴰ·not-nil m)
+mem-operations (w ∷ l) (List·Memᴰ·head e) = (w, List·Memᴰ·head refl, sym e)
+mem-operations (w ∷ l) (List·Memᴰ·tail m) = let r = mem-operations l m in (r .0, List·Memᴰ·tail (r .1), r .2)
+
+pub operations-append : (l m : List Waiter) → operationsOf (l ++ m) ≡ operationsOf l ++ operationsOf m
+unfolding operationsOf
+operations-append [] m = refl
+operations-append (w ∷ l) m = ap (λ (x : List ℕ). w .operation ∷ x) (operations-append l m)
+
+-- ---- positions
+
+further-some : (n : ℕ) → (n ≡ 0 → ⊥) → further n ≡ suc n
+unfolding further
+further-some zero s = absurd (s refl)
+further-some (suc n) s = refl
+
+further-none : further 0 ≡ 0
+unfolding further
+further-none = refl
+
+position-head : (i x : ℕ) (l : List ℕ) → i ≡ x → positionOf i (x ∷ l) ≡ 1
+unfolding positionOf
+position-head i x l e = rw (eq-eqb i x e)
+
+position-tail : (i x : ℕ) (l : List ℕ) → (i ≡ x → ⊥) → positionOf i (x ∷ l) ≡ further (positionOf i l)
+unfolding positionOf
+position-tail i x l n = rw (ne-eqb i x n)
+
+-- an operation stands in a list or has no position there
+pub found : (i : ℕ) (l : List ℕ) → (positionOf i l ≡ 0) ⊎ List·Memᴰ i l
+unfolding positionOf
+found i [] = inl refl
+found i (x ∷ l) = go (eqb i x) refl (found i l)
+  where
+    go : (t : Bool) → eqb i x ≡ t → (positionOf i l ≡ 0) ⊎ List·Memᴰ i l → (positionOf i (x ∷ l) ≡ 0) ⊎ List·Memᴰ i (x ∷ l)
+    go true e r = inr (List·Memᴰ·head (eqb-true i x e))
+    go false e (inl z) = inl (position-tail i x l (eqb-false i x e) ∙ ap further z ∙ further-none)
+    go false e (inr m) = inr (List·Memᴰ·tail m)
+
+pub absent : (i : ℕ) (l : List ℕ) → (List·Memᴰ i l → ⊥) → positionOf i l ≡ 0
+absent i l n = ⊎-elim (λ z. z) (λ m. absurd (n m)) (found i l)
+
+-- in two lists one after the other
+pub position-first : (i : ℕ) (a b : List ℕ) → List·Memᴰ i a → positionOf i (a ++ b) ≡ positionOf i a
+position-first i (x ∷ a) b m = go (eqb i x) refl (position-first i a b) m
+  where
+    go : (t : Bool) → eqb i x ≡ t → (List·Memᴰ i a → positionOf i (a ++ b) ≡ positionOf i a) → List·Memᴰ i (x ∷ a) → positionOf i (x ∷ (a ++ b)) ≡ positionOf i (x ∷ a)
+    go true e ih m = position-head i x (a ++ b) (eqb-true i x e) ∙ sym (position-head i x a (eqb-true i x e))
+    go false e ih (List·Memᴰ·head d) = absurd (eqb-false i x e d)
+    go false e ih (List·Memᴰ·tail m) =
+        position-tail i x (a ++ b) (eqb-false i x e) ∙ ap further (ih m) ∙ sym (position-tail i x a (eqb-false i x e))
+position-first i [] b m = absurd (List·Memᴰ·not-nil m)
+
+pub position-second : (i : ℕ) (a b : List ℕ) → (List·Memᴰ i a → ⊥) → List·Memᴰ i b → positionOf i (a ++ b) ≡ length a + positionOf i b
+position-second i [] b n m = omega arith
+position-second i (x ∷ a) b n m =
+    let ih = position-second i a b (λ k. n (List·Memᴰ·tail k)) m in
+    position-tail i x (a ++ b) (λ e. n (List·Memᴰ·head e)) ∙ ap further ih ∙ further-some _ (λ z. listed-some m (omega arith)) ∙ omega arith
+
+pub position-neither : (i : ℕ) (a b : List ℕ) → (List·Memᴰ i a → ⊥) → (List·Memᴰ i b → ⊥) → positionOf i (a ++ b) ≡ 0
+position-neither i a b n m = absent i (a ++ b) (λ k. ⊎-elim n m (List·Memᴰ·append-cases a k))
+
+pub distinct-more : {l : List ℕ} (i : ℕ) → Distinct l → (List·Memᴰ i l → ⊥) → Distinct (l ++ (i ∷ []))
+distinct-more i nothing n = another (absent i [] n) nothing
+distinct-more i (another {i = x} {is = l} z d) n =
+    another (position-neither x l (i ∷ []) (λ m. listed-some m z) (λ m. n (List·Memᴰ·head (sym (List·Memᴰ·eq-of-singleton m))))) (distinct-more i d (λ m. n (List·Memᴰ·tail m)))

@@ -1,0 +1,11 @@
+pub mod Turns
+pub mod Did
+pub mod Good
+pub mod Under
+pub mod Counted
+pub mod Kept
+pub mod Waiters
+pub mod Listing
+pub mod Numbers
+pub mod Keeps
+pub mod Total

@@ -1,0 +1,1 @@
+// What the replay keeps beside the memory, with no code.

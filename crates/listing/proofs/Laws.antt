@@ -1,0 +1,244 @@
+-- Laws of the queue and of its listing: what a store leaves of the queue, what `keep` leaves of a list, which numbers the ranks change, and
+-- that a listing leaves a queue that can be listed again and allows one outcome.
+use Prim.Native.Nat.{ℕ, zero, suc, _+_, _*_, _/_, _%_, _^_, _≤_, _<_}
+use mathlib.Core.Path.{_≡_, refl, sym, ap, ap₂, _∙_, subst}
+use mathlib.Core.Bool.{Bool, true, false, not, cond}
+use mathlib.Core.List.{List, [], _∷_, _++_, List·Memᴰ, List·Memᴰ·head, List·Memᴰ·tail}
+use native.Mathlib.Nat.{add-zero}
+use native.Mathlib.Numerals.{add-one}
+use native.Mathlib.Omega.{arith}
+use lib.ListN.{length, length-append}
+use lib.Dec.{eqb}
+use borrow.Author.Count.{below-more}
+use borrow.Author.Tests.{eq-eqb, eqb-true}
+use Rattle.meaning.specs.Steps.{upd}
+use Rattle.meaning.specs.TakenIn.{keep, further, positionOf}
+use Rattle.arrays.proofs.Laws.{upd-same, upd-other, upd-cases}
+use Rattle.taken.specs.CountIn.{Waiter}
+use Rattle.listing.specs.Queue.{waiterAt, queueOf, isCounted, ranked, Lists, CanList}
+use Rattle.listing.specs.declared.Listed.{Listed}
+
+-- ---- a property of every element of a list
+
+pub data All {A : Type 0} (P : A → Type 0) : List A → Type 0 where
+  none : All P []
+  more : {a : A} {l : List A} → P a → All P l → All P (a ∷ l)
+
+module _ {A : Type 0} {P : A → Type 0} where
+  pub all-append : {l m : List A} → All P l → All P m → All P (l ++ m)
+  all-append none b = b
+  all-append (more h a) b = more h (all-append a b)
+
+  pub all-front : (l m : List A) → All P (l ++ m) → All P l
+  all-front [] m a = none
+  all-front (x ∷ l) m (more h a) = more h (all-front l m a)
+
+  pub all-back : (l m : List A) → All P (l ++ m) → All P m
+  all-back [] m a = a
+  all-back (x ∷ l) m (more h a) = all-back l m a
+
+  pub all-head : {a : A} {l : List A} → All P (a ∷ l) → P a
+  all-head (more h a) = h
+
+  pub all-keep : (p : A → Bool) {l : List A} → All P l → All P (keep p l)
+  unfolding keep
+  all-keep p none = none
+  all-keep p (more {a} {l} h rest) = go (p a) (all-keep p rest)
+    where
+      go : (t : Bool) → All P (keep p l) → All P (cond t (a ∷ keep p l) (keep p l))
+      go true k = more h k
+      go false k = k
+
+-- ---- what `keep` leaves
+
+module _ {A : Type 0} (p : A → Bool) where
+  pub keep-append : (l m : List A) → keep p (l ++ m) ≡ keep p l ++ keep p m
+  unfolding keep
+  keep-append [] m = refl
+  keep-append (a ∷ l) m = rw (keep-append l m) (go (p a))
+    where
+      go : (t : Bool) → cond t (a ∷ (keep p l ++ keep p m)) (keep p l ++ keep p m) ≡ cond t (a ∷ keep p l) (keep p l) ++ keep p m
+      go true = refl
+      go false = refl
+
+  -- those kept and the others are all
+  pub length-keep : (l : List A) → length (keep p l) + length (keep (λ a. not (p a)) l) ≡ length l
+  unfolding keep
+  length-keep [] = refl
+  length-keep (a ∷ l) = go (p a) (length-keep l)
+    where
+      go : (t : Bool) → length (keep p l) + length (keep (λ a. not (p a)) l) ≡ length l
+          → length (cond t (a ∷ keep p l) (keep p l)) + length (cond (not t) (a ∷ keep (λ a. not (p a)) l) (keep (λ a. not (p a)) l)) ≡ suc (length l)
+      go true e = omega arith
+      go false e = omega arith
+
+-- ---- the queue
+
+pub length-queueOf : (q t : ℕ → ℕ) (k : ℕ) → length (queueOf q t k) ≡ k
+unfolding queueOf
+length-queueOf q t zero = refl
+length-queueOf q t (suc k) = simp (length-append, length-queueOf q t k) (add-one k)
+
+-- what is stored at the queue's length or beyond is not in it
+pub queueOf-store : (q t : ℕ → ℕ) (m v u k : ℕ) → k ≤ m → queueOf (upd q m v) (upd t m u) k ≡ queueOf q t k
+unfolding queueOf waiterAt
+queueOf-store q t m v u zero h = refl
+queueOf-store q t m v u (suc k) h =
+    rw (queueOf-store q t m v u k (omega arith), upd-other q m v k (λ e. omega arith), upd-other t m u k (λ e. omega arith))
+
+-- stored at its length, it is the last
+pub queueOf-more : (q t : ℕ → ℕ) (k v u : ℕ)
+    → queueOf (upd q k v) (upd t k u) (suc k) ≡ queueOf q t k ++ (record { operation = v / 64; process = v % 64; turn = u } ∷ [])
+unfolding queueOf waiterAt
+queueOf-more q t k v u = rw (queueOf-store q t k v u k (omega arith), upd-same q k v, upd-same t k u)
+
+pub queueOf-wait : (q t : ℕ → ℕ) (waiting operation p turn : ℕ) → p < 64
+    → queueOf (upd q waiting (operation * 64 + p)) (upd t waiting turn) (suc waiting)
+    ≡ queueOf q t waiting ++ (record { operation = operation; process = p; turn = turn } ∷ [])
+queueOf-wait q t waiting operation p turn h =
+    let i : (operation * 64 + p) / 64 ≡ operation = omega arith in
+    let r : (operation * 64 + p) % 64 ≡ p = omega arith in
+    queueOf-more q t waiting (operation * 64 + p) turn
+    ∙ ap₂ (λ (x y : ℕ). queueOf q t waiting ++ (record { operation = x; process = y; turn = turn } ∷ [])) i r
+
+-- a property of every waiter, by the list and by the entries
+module _ (P : Waiter → Type 0) (q t : ℕ → ℕ) where
+  pub all-queueOf : (k : ℕ) → ((j : ℕ) → j < k → P (waiterAt q t j)) → All P (queueOf q t k)
+  unfolding queueOf
+  all-queueOf zero h = none
+  all-queueOf (suc k) h = all-append (all-queueOf k (λ j l. h j (omega arith))) (more (h k (omega arith)) none)
+
+  pub queueOf-all : (k : ℕ) → All P (queueOf q t k) → (j : ℕ) → j < k → P (waiterAt q t j)
+  unfolding queueOf
+  queueOf-all zero a j h = absurd (omega arith)
+  queueOf-all (suc k) a j h =
+      let last : List Waiter = waiterAt q t k ∷ [] in
+      below-more (λ (m : ℕ). P (waiterAt q t m)) k (queueOf-all k (all-front (queueOf q t k) last a)) (all-head (all-back (queueOf q t k) last a))
+      j (omega arith)
+
+-- the same of the operations' bound, as `CanList` says it
+pub all-operations : (n : ℕ) (q t : ℕ → ℕ) (k : ℕ) → ((j : ℕ) → j < k → q j / 64 < n) → All (λ w. w .operation < n) (queueOf q t k)
+unfolding waiterAt
+all-operations n q t k h = all-queueOf (λ w. w .operation < n) q t k h
+
+pub operations-all : (n : ℕ) (q t : ℕ → ℕ) (k : ℕ) → All (λ w. w .operation < n) (queueOf q t k) → (j : ℕ) → j < k → q j / 64 < n
+unfolding waiterAt
+operations-all n q t k a = queueOf-all (λ w. w .operation < n) q t k a
+
+-- ---- the ranks
+
+pub ranked-append : (is js : List ℕ) (k : ℕ) (f : ℕ → ℕ) → ranked (is ++ js) k f ≡ ranked js (k + length is) (ranked is k f)
+unfolding ranked
+ranked-append [] js k f = rw (add-zero k)
+ranked-append (i ∷ is) js k f =
+    let e : suc k + length is ≡ k + suc (length is) = omega arith in
+    ranked-append is js (suc k) (upd f (5 * i + 3) (suc k)) ∙ rw e
+
+-- a number that is no listed operation's rank stays
+pub ranked-other : (is : List ℕ) (k : ℕ) (f : ℕ → ℕ) (j : ℕ) → ((i : ℕ) → List·Memᴰ i is → j ≡ 5 * i + 3 → ⊥) → ranked is k f j ≡ f j
+unfolding ranked
+ranked-other [] k f j n = refl
+ranked-other (i ∷ is) k f j n =
+    ranked-other is (suc k) (upd f (5 * i + 3) (suc k)) j (λ x m. n x (List·Memᴰ·tail m))
+    ∙ upd-other f (5 * i + 3) (suc k) j (n i (List·Memᴰ·head refl))
+
+-- the row's other numbers stay
+pub ranked-beside : (is : List ℕ) (k : ℕ) (f : ℕ → ℕ) (j : ℕ) → (j % 5 ≡ 3 → ⊥) → ranked is k f j ≡ f j
+ranked-beside is k f j n = ranked-other is k f j (λ i m e. n (omega arith))
+
+further-none : (n : ℕ) → further n ≡ 0 → n ≡ 0
+unfolding further
+further-none zero e = refl
+further-none (suc n) e = omega arith
+
+further-some : (n : ℕ) → (n ≡ 0 → ⊥) → further n ≡ suc n
+unfolding further
+further-some zero s = absurd (s refl)
+further-some (suc n) s = refl
+
+-- what is listed has a position
+pub listed-some : {i : ℕ} {is : List ℕ} → List·Memᴰ i is → positionOf i is ≡ 0 → ⊥
+unfolding positionOf
+listed-some {i} (List·Memᴰ·head {x} {xs} e) z = let t = eq-eqb i x e in let n : _≡_ {A = ℕ} 1 0 = rw t at z in omega arith
+listed-some {i} (List·Memᴰ·tail {x} {xs} m) z = go (eqb i x) (listed-some m) z
+  where
+    go : (t : Bool) → (positionOf i xs ≡ 0 → ⊥) → cond t 1 (further (positionOf i xs)) ≡ 0 → ⊥
+    go true s e = omega arith
+    go false s e = s (further-none _ e)
+
+-- an operation that is not listed keeps its rank
+pub ranked-absent : (is : List ℕ) (k : ℕ) (f : ℕ → ℕ) (i : ℕ) → positionOf i is ≡ 0 → ranked is k f (5 * i + 3) ≡ f (5 * i + 3)
+ranked-absent is k f i z =
+    ranked-other is k f (5 * i + 3) (λ x m e. let same : x ≡ i = omega arith in listed-some m (ap (λ y. positionOf y is) same ∙ z))
+
+-- a list without doubles
+pub data Distinct : List ℕ → Type 0 where
+  nothing : Distinct []
+  another : {i : ℕ} {is : List ℕ} → positionOf i is ≡ 0 → Distinct is → Distinct (i ∷ is)
+
+-- a listed operation's rank is its position, after the k listed before
+pub ranked-at : {is : List ℕ} → Distinct is → (k : ℕ) (f : ℕ → ℕ) (i : ℕ) → (positionOf i is ≡ 0 → ⊥)
+    → ranked is k f (5 * i + 3) ≡ k + positionOf i is
+unfolding ranked positionOf further
+ranked-at nothing k f i s = absurd (s refl)
+ranked-at (another {i = x} {is = xs} n d) k f i s = go (eqb i x) refl s (ranked-at d (suc k) (upd f (5 * x + 3) (suc k)) i)
+  where
+    g : ℕ → ℕ
+    g = upd f (5 * x + 3) (suc k)
+
+    at : ℕ
+    at = positionOf i xs
+
+    go : (t : Bool) → eqb i x ≡ t → (cond t 1 (further at) ≡ 0 → ⊥)
+        → ((at ≡ 0 → ⊥) → ranked xs (suc k) g (5 * i + 3) ≡ suc k + at) → ranked xs (suc k) g (5 * i + 3) ≡ k + cond t 1 (further at)
+    go true e s rest =
+        let same = eqb-true i x e in
+        ranked-absent xs (suc k) g i (ap (λ y. positionOf y xs) same ∙ n) ∙ ap (λ y. g (5 * y + 3)) same ∙ upd-same f (5 * x + 3) (suc k)
+        ∙ sym (add-one k)
+    go false e s rest =
+        let some : at ≡ 0 → ⊥ = λ z. s (rw z) in
+        rest some ∙ omega (arith, further-some at some)
+
+-- ---- the listing
+
+module _ {ws : List Waiter} {count : ℕ → ℕ} {k : ℕ} {f f′ q′ t′ : ℕ → ℕ} {r : Listed} (l : Lists ws count k f f′ q′ t′ r) where
+  -- none is lost: those listed and those that wait on
+  pub lists-all : r .rank + r .waiting ≡ k + length ws
+  lists-all =
+      omega (arith, l .rank, length-keep (isCounted count) ws, length-queueOf q′ t′ (r .waiting), ap length (l .waiting))
+
+  -- what waits on has the property that all had
+  pub lists-keep : {P : Waiter → Type 0} → All P ws → All P (queueOf q′ t′ (r .waiting))
+  lists-keep {P} a = subst (All P) (sym (l .waiting)) (all-keep (λ w. not (isCounted count w)) a)
+
+-- what waits on can be listed again
+pub lists-again : (t : ℕ → ℕ) {q count : ℕ → ℕ} {waiting k : ℕ} {f f′ q′ t′ : ℕ → ℕ} {r : Listed}
+    → CanList q waiting k → Lists (queueOf q t waiting) count k f f′ q′ t′ r → CanList q′ (r .waiting) (r .rank)
+lists-again t {q} {waiting = waiting} {q′ = q′} {t′ = t′} {r = r} can l =
+    let n = length-queueOf q t waiting in
+    record {
+      most = omega (arith, can .most, l .fewer);
+      operations = operations-all 1024 q′ t′ (r .waiting) (lists-keep l (all-operations 1024 q t waiting (can .operations)));
+      ranks = omega (arith, can .ranks, lists-all l);
+    }
+
+-- and so can a queue with one more
+pub can-wait : {q : ℕ → ℕ} {waiting k : ℕ} (operation p : ℕ) → CanList q waiting k
+    → waiting < 1024 → operation < 1024 → p < 64 → k + suc waiting < 2 ^ 32 → CanList (upd q waiting (operation * 64 + p)) (suc waiting) k
+can-wait {q} {waiting} operation p can room small h ranks =
+    record {
+      most = room;
+      operations = λ j l. upd-cases q waiting (operation * 64 + p) (λ x. x / 64 < 1024) j (λ e. omega arith) (λ n. can .operations j (omega arith));
+      ranks = ranks;
+    }
+
+-- One outcome: the same waiting list, the same numbers of waiting and listed, the same rows. What the two arrays have beyond the waiting
+-- list is free: so the lists are equal, and not the arrays.
+pub lists-one : {ws : List Waiter} {count : ℕ → ℕ} {k : ℕ} {f f₁ q₁ t₁ f₂ q₂ t₂ : ℕ → ℕ} {r s : Listed}
+    → Lists ws count k f f₁ q₁ t₁ r → Lists ws count k f f₂ q₂ t₂ s
+    → (queueOf q₁ t₁ (r .waiting) ≡ queueOf q₂ t₂ (s .waiting)) × (r ≡ s) × (f₁ ≡ f₂)
+lists-one {q₁ = q₁} {t₁ = t₁} {q₂ = q₂} {t₂ = t₂} {r = r} {s = s} a b =
+    let list = a .waiting ∙ sym (b .waiting) in
+    let waiting = sym (length-queueOf q₁ t₁ (r .waiting)) ∙ ap length list ∙ length-queueOf q₂ t₂ (s .waiting) in
+    let rank = a .rank ∙ sym (b .rank) in
+    (list, λ i. record { waiting = waiting i; rank = rank i }, a .rows ∙ sym (b .rows))

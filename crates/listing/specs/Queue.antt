@@ -1,0 +1,45 @@
+-- The additions that wait to be listed, in the order of their leaf writes, and what a root store makes of them.
+use Prim.Native.Nat.{ℕ, zero, suc, _+_, _*_, _/_, _%_, _^_, _≤_, _<_}
+use mathlib.Core.Path.{_≡_}
+use mathlib.Core.Bool.{Bool, not}
+use mathlib.Core.List.{List, [], _∷_, _++_, map}
+use lib.ListN.{length}
+use lib.Dec.{ltb}
+use Rattle.meaning.specs.Steps.{upd}
+use Rattle.meaning.specs.TakenIn.{keep}
+use Rattle.arrays.specs.Arrays.{asFun}
+use Rattle.taken.specs.CountIn.{Waiter}
+use Rattle.listing.specs.declared.Listed.{Listed}
+
+-- The queue's first k entries: operation and process in one number of the one array, operation * 64 + process, the turn in the other.
+unfoldable pub waiterAt : (ℕ → ℕ) → (ℕ → ℕ) → ℕ → Waiter
+waiterAt queue turns j = record { operation = queue j / 64; process = queue j % 64; turn = turns j }
+
+unfoldable pub queueOf : (ℕ → ℕ) → (ℕ → ℕ) → ℕ → List Waiter
+queueOf queue turns zero = []
+queueOf queue turns (suc k) = queueOf queue turns k ++ (waiterAt queue turns k ∷ [])
+
+-- whether an addition is in node 1, by the counts there
+unfoldable pub isCounted : (ℕ → ℕ) → Waiter → Bool
+isCounted count w = ltb (w .turn) (count (w .process))
+
+-- ranks given one after another, from suc k on, in the fourth number of each row
+unfoldable pub ranked : List ℕ → ℕ → (ℕ → ℕ) → ℕ → ℕ
+ranked [] k f = f
+ranked (i ∷ is) k f = ranked is (suc k) (upd f (5 * i + 3) (suc k))
+
+unfoldable pub operationsOf : List Waiter → List ℕ
+operationsOf ws = map (λ w. w .operation) ws
+
+-- what listing gives: the queue without those listed, their ranks in the rows, and how many are listed by then
+pub record Lists (ws : List Waiter) (count : ℕ → ℕ) (k : ℕ) (f f′ queue′ turns′ : ℕ → ℕ) (r : Listed) : Type 0 where
+  pub waiting : queueOf queue′ turns′ (r .waiting) ≡ keep (λ w. not (isCounted count w)) ws
+  pub rank : r .rank ≡ k + length (keep (isCounted count) ws)
+  pub rows : f′ ≡ ranked (operationsOf (keep (isCounted count) ws)) k f
+  pub fewer : r .waiting ≤ length ws
+
+-- what it asks: a queue of at most 1,024 entries, each of an operation below 1,024, and room for the ranks
+pub record CanList (queue : ℕ → ℕ) (waiting rank : ℕ) : Type 0 where
+  pub most : waiting ≤ 1024
+  pub operations : (j : ℕ) → j < waiting → queue j / 64 < 1024
+  pub ranks : rank + waiting < 2 ^ 32

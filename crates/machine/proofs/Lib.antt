@@ -1,0 +1,4 @@
+pub mod Joined
+pub mod Laws
+pub mod Numbered
+pub mod Stored

@@ -1,0 +1,98 @@
+-- Numbers stored one after another, as `sets` of the list: what stands where afterwards, a row of five, and four bytes.
+use Prim.Native.Nat.{ℕ, zero, suc, _+_, _*_, _≤_, _<_}
+use mathlib.Core.Path.{_≡_, refl, sym, _∙_}
+use mathlib.Core.List.{List, [], _∷_, _++_, append-assoc, append-nil}
+use native.Mathlib.Omega.{arith}
+use native.Mathlib.Nat.{add-zero}
+use native.Mathlib.Numerals.{add-one}
+use lib.ListN.{length, getD, take, drop, set, length-set, length-append, take-append-drop}
+use lib.Seq.{sets, sets-eq, set-split, length-take-le, getD-set-same, getD-set-other, take-at, drop-at, drop-drop}
+use Rattle.arrays.specs.Arrays.{asFun}
+use Rattle.recording.specs.Numbers.{fourBytes}
+use Rattle.rows.specs.Rows.{withRow, numbersBytes, laidAt, laidReport}
+use Rattle.rows.proofs.Laws.{withRow-is, length-numbersBytes}
+
+sets-else : (vs l : List ℕ) (n j : ℕ) → ((k : ℕ) → k < length vs → j ≡ n + k → ⊥) → getD (sets l n vs) j 0 ≡ getD l j 0
+sets-else [] l n j away = refl
+sets-else (v ∷ vs) l n j away =
+    sets-else vs (set l n v) (suc n) j (λ k h e. away (suc k) (omega arith) (omega arith))
+    ∙ getD-set-other l n j v 0 (λ e. away 0 (omega arith) (omega arith))
+
+sets-there : (vs l : List ℕ) (n k : ℕ) → n + length vs ≤ length l → k < length vs → getD (sets l n vs) (n + k) 0 ≡ getD vs k 0
+sets-there [] l n k room h = absurd (omega arith)
+sets-there (v ∷ vs) l n zero room h =
+    sets-else vs (set l n v) (suc n) (n + 0) (λ k h e. omega arith) ∙ rw add-zero (getD-set-same l n v 0 (omega arith))
+sets-there (v ∷ vs) l n (suc k) room h =
+    let next : n + suc k ≡ suc n + k = omega arith in
+    rw next (sets-there vs (set l n v) (suc n) k (simp length-set (omega arith)) (omega arith))
+
+module _ (l : List ℕ) (n a b c d : ℕ) where
+  -- the code's indices, and those of `sets`
+  four-stored : set (set (set (set l n a) (n + 1) b) (n + 2) c) (n + 3) d ≡ sets l n (a ∷ b ∷ c ∷ d ∷ [])
+  four-stored =
+      let one : n + 1 ≡ suc n = omega arith in
+      let two : n + 2 ≡ suc (suc n) = omega arith in
+      let three : n + 3 ≡ suc (suc (suc n)) = omega arith in
+      simp (one, two, three)
+
+  five-stored : (e : ℕ) → set (set (set (set (set l n a) (n + 1) b) (n + 2) c) (n + 3) d) (n + 4) e ≡ sets l n (a ∷ b ∷ c ∷ d ∷ e ∷ [])
+  five-stored e =
+      let four : n + 4 ≡ suc (suc (suc (suc n))) = omega arith in
+      rw (four-stored, four)
+
+pub row-stored : (l : List ℕ) (i a b c d e : ℕ) → 5 * i + 5 ≤ length l
+    → asFun (set (set (set (set (set l (5 * i) a) (5 * i + 1) b) (5 * i + 2) c) (5 * i + 3) d) (5 * i + 4) e)
+    ≡ withRow (asFun l) i (a ∷ b ∷ c ∷ d ∷ e ∷ [])
+unfolding asFun
+row-stored l i a b c d e room =
+    let ns : List ℕ = a ∷ b ∷ c ∷ d ∷ e ∷ [] in
+    rw (five-stored l (5 * i) a b c d e)
+    (withRow-is (asFun l) i ns (asFun (sets l (5 * i) ns)) (λ k h. sets-there ns l (5 * i) k room h)
+    (λ j n. sets-else ns l (5 * i) j (λ k h e. n (omega arith))))
+
+pub bytes-stored : (l : List ℕ) (n a b c d : ℕ) → n + 4 ≤ length l
+    → set (set (set (set l n a) (n + 1) b) (n + 2) c) (n + 3) d ≡ laidAt l n 4 (a ∷ b ∷ c ∷ d ∷ [])
+unfolding laidAt
+bytes-stored l n a b c d room = four-stored l n a b c d ∙ sets-eq (a ∷ b ∷ c ∷ d ∷ []) l n room
+
+-- bytes laid right after a front that is laid already
+module _ (front buf : List ℕ) (at : ℕ) (e : length front ≡ at) where
+  rest-stays : (n : ℕ) → drop (at + n) (front ++ drop at buf) ≡ drop (at + n) buf
+  rest-stays n = sym (drop-drop n at (front ++ drop at buf)) ∙ rw (drop-at front (drop at buf) at e) (drop-drop n at buf)
+
+  laid-more : (n : ℕ) (bytes : List ℕ) → laidAt (front ++ drop at buf) at n bytes ≡ front ++ bytes ++ drop (at + n) buf
+  unfolding laidAt
+  laid-more n bytes = rw (take-at front (drop at buf) at e, rest-stays n)
+
+module _ (l : List ℕ) (f : ℕ → ℕ) where
+  -- the first j numbers, from place 9 on
+  abbrev pub laidNumbers : ℕ → List ℕ
+  laidNumbers j = laidAt l 9 (4 * j) (numbersBytes f j)
+
+  pub none-laid : l ≡ laidNumbers 0
+  unfolding laidAt numbersBytes
+  none-laid = rw append-nil (sym (take-append-drop 9 l))
+
+  length-front : (j : ℕ) → 9 ≤ length l → length (take 9 l ++ numbersBytes f j) ≡ 9 + 4 * j
+  length-front j room = simp (length-append, length-numbersBytes, length-take-le 9 l room)
+
+  pub one-more-laid : (j : ℕ) → 9 ≤ length l → laidAt (laidNumbers j) (9 + 4 * j) 4 (fourBytes (f j)) ≡ laidNumbers (j + 1)
+  unfolding laidAt numbersBytes
+  one-more-laid j room =
+      let next : 9 + 4 * j + 4 ≡ 9 + 4 * (j + 1) = omega arith in
+      laid-more (take 9 l ++ numbersBytes f j) l (9 + 4 * j) (length-front j room) 4 (fourBytes (f j)) ∙ simp (next, add-one, append-assoc)
+
+-- the header byte, two numbers, and the rows
+pub report-laid : (buf : List ℕ) (m counter : ℕ) (f : ℕ → ℕ) → 0 < length buf
+    → laidNumbers (laidAt (laidAt (set buf 0 1) 1 4 (fourBytes (4 + 20 * m))) 5 4 (fourBytes counter)) f (5 * m) ≡ laidReport m counter f buf
+unfolding fourBytes laidReport
+report-laid buf m counter f room =
+    let size : List ℕ = fourBytes (4 + 20 * m) in
+    let end : 9 + 4 * (5 * m) ≡ 9 + 20 * m = omega arith in
+    rw (
+      set-split buf 0 1 room,
+      laid-more (1 ∷ []) buf 1 refl 4 size,
+      laid-more (1 ∷ size) buf 5 refl 4 (fourBytes counter),
+      laid-more (1 ∷ size ++ fourBytes counter) buf 9 refl (4 * (5 * m)) (numbersBytes f (5 * m)),
+      end,
+    )

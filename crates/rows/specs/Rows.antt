@@ -1,0 +1,51 @@
+-- A row as five numbers, and all rows as one array of them: row i from number 5i on. The report is the bytes of these numbers in order.
+use Prim.Native.Nat.{ℕ, zero, suc, _+_, _*_, _/_, _%_, _^_, _<_}
+use mathlib.Core.Bool.{Bool, cond}
+use mathlib.Core.List.{List, [], _∷_, _++_}
+use lib.ListN.{getD, take, drop}
+use lib.Dec.{eqb}
+use Rattle.recording.specs.Numbers.{fourBytes}
+use Rattle.meaning.specs.Run.{Row}
+use Rattle.meaning.specs.Report.{one}
+
+-- bytes 0 to 3 of a row as one number
+unfoldable pub head : ℕ → ℕ → ℕ → ℕ → ℕ
+head process kind finished contention = process * 2 ^ 24 + kind * 2 ^ 16 + finished * 2 ^ 8 + contention
+
+-- the five numbers of a row
+unfoldable pub rowNumbers : Row → ℕ → List ℕ
+rowNumbers w rank = head (w .process) (w .kind) (one (w .finished)) (w .contention) ∷ w .steps ∷ w .answer ∷ rank ∷ w .seconds ∷ []
+
+-- f, but these numbers as row i
+unfoldable pub withRow : (ℕ → ℕ) → ℕ → List ℕ → ℕ → ℕ
+withRow f i ns j = cond (eqb (j / 5) i) (getD ns (j % 5) 0) (f j)
+
+-- a row right after its start record
+unfoldable pub freshNumbers : ℕ → ℕ → ℕ → List ℕ
+freshNumbers process kind contention = head process kind 0 contention ∷ 0 ∷ 0 ∷ 0 ∷ 0 ∷ []
+
+-- row i of f after one more step
+unfoldable pub steppedNumbers : (ℕ → ℕ) → ℕ → Bool → ℕ → Bool → List ℕ
+steppedNumbers f i finished answer second =
+    (f (5 * i) + one finished * 2 ^ 8) ∷ (f (5 * i + 1) + 1) ∷ answer ∷ f (5 * i + 3) ∷ (f (5 * i + 4) + one second) ∷ []
+
+-- room for that in each number
+pub record RoomToStep (f : ℕ → ℕ) (i : ℕ) : Type 0 where
+  pub row : i < 1024
+  pub head : f (5 * i) + 2 ^ 8 < 2 ^ 32
+  pub steps : f (5 * i + 1) + 1 < 2 ^ 32
+  pub seconds : f (5 * i + 4) + 1 < 2 ^ 32
+
+-- the bytes of the first k numbers of f
+unfoldable pub numbersBytes : (ℕ → ℕ) → ℕ → List ℕ
+numbersBytes f zero = []
+numbersBytes f (suc k) = numbersBytes f k ++ fourBytes (f k)
+
+-- a buffer with these bytes for its n from place at on
+unfoldable pub laidAt : List ℕ → ℕ → ℕ → List ℕ → List ℕ
+laidAt buf at n bytes = take at buf ++ bytes ++ drop (at + n) buf
+
+-- a buffer with the report of m rows laid at its front
+unfoldable pub laidReport : ℕ → ℕ → (ℕ → ℕ) → List ℕ → List ℕ
+laidReport m counter f buf =
+    1 ∷ fourBytes (4 + 20 * m) ++ (fourBytes counter ++ numbersBytes f (5 * m)) ++ drop (9 + 20 * m) buf

@@ -1,0 +1,111 @@
+// The report's rows as numbers, five a row, and their bytes.
+ghost use Prim.Native.Nat.{_+_, _*_, _^_, _≤_, _<_};
+ghost use mathlib.Core.Path.{_≡_};
+ghost use mathlib.Core.List.{[], _∷_};
+ghost use lib.ListN.{length};
+ghost use Rattle.recording.specs.Numbers.{fourBytes};
+ghost use Rattle.meaning.specs.Report.{one};
+ghost use Rattle.arrays.specs.Arrays.{asFun};
+ghost use Rattle.rows.specs.Rows.{freshNumbers, steppedNumbers, withRow, RoomToStep, numbersBytes, laidAt, laidReport};
+
+// That the array has its length, for the proofs.
+fn sized(rows: [u32; 5120]) -> bool
+    ensures { λ r. ⌜ length rows ≡ 5120 ⌝ }
+{
+    true
+}
+
+fn wide(x: u8) -> u32
+    ensures { λ r. ⌜ r ≡ x ⌝ }
+{
+    x as u32
+}
+
+// The number in four bytes, highest first.
+fn number(a: u8, b: u8, c: u8, d: u8) -> u32
+    ensures { λ r. ⌜ r ≡ a * 2 ^ 24 + b * 2 ^ 16 + c * 2 ^ 8 + d ⌝ }
+{
+    wide(a) * 16777216 + wide(b) * 65536 + wide(c) * 256 + wide(d)
+}
+
+// 1 if so, 0 if not.
+fn counted(b: bool) -> u32
+    ensures { λ r. ⌜ (r ≡ one b) × (r ≤ 1) ⌝ }
+{
+    if b { 1 } else { 0 }
+}
+
+// Five numbers as row i.
+fn lay_row(
+    rows: &mut [u32; 5120],
+    i: usize,
+    head: u32,
+    steps: u32,
+    answer: u32,
+    rank: u32,
+    seconds: u32,
+)
+    requires { ⌜ i < 1024 ⌝ }
+    ensures { λ r. ⌜ asFun (now (rows .exit)) ≡ withRow (asFun (now (rows .entry))) i (head ∷ steps ∷ answer ∷ rank ∷ seconds ∷ []) ⌝ }
+{
+    sized(*rows);
+    let at = 5 * i;
+    rows[at] = head;
+    rows[at + 1] = steps;
+    rows[at + 2] = answer;
+    rows[at + 3] = rank;
+    rows[at + 4] = seconds;
+}
+
+// Row i right after its start record.
+pub fn start_row(rows: &mut [u32; 5120], i: usize, p: u8, kind: u8, contention: u8)
+    requires { ⌜ i < 1024 ⌝ }
+    ensures { λ r. ⌜ asFun (now (rows .exit)) ≡ withRow (asFun (now (rows .entry))) i (freshNumbers p kind contention) ⌝ }
+{
+    lay_row(rows, i, number(p, kind, 0, contention), 0, 0, 0, 0);
+}
+
+// Row i after one more step.
+pub fn step_row(rows: &mut [u32; 5120], i: usize, finished: bool, answer: u32, second: bool)
+    requires { ⌜ RoomToStep (asFun (now rows)) i ⌝ }
+    ensures { λ r. ⌜ asFun (now (rows .exit)) ≡ withRow (asFun (now (rows .entry))) i (steppedNumbers (asFun (now (rows .entry))) i finished answer second) ⌝ }
+{
+    let at = 5 * i;
+    let head = rows[at] + counted(finished) * 256;
+    let steps = rows[at + 1] + 1;
+    let rank = rows[at + 3];
+    let seconds = rows[at + 4] + counted(second);
+    lay_row(rows, i, head, steps, answer, rank, seconds);
+}
+
+// Four bytes of x, the highest first, from place at on.
+fn lay_number(out: &mut [u8], at: usize, x: u32)
+    requires { ⌜ at + 4 ≤ length (now out) ⌝ }
+    ensures { λ r. ⌜ now (out .exit) ≡ laidAt (now (out .entry)) at 4 (fourBytes x) ⌝ }
+{
+    out[at] = (x / 16777216 % 256) as u8;
+    out[at + 1] = (x / 65536 % 256) as u8;
+    out[at + 2] = (x / 256 % 256) as u8;
+    out[at + 3] = (x % 256) as u8;
+}
+
+// The bytes of the first k numbers, from place 9 on.
+fn lay_numbers(out: &mut [u8], k: usize, rows: &[u32; 5120])
+    requires { ⌜ (k ≤ 5120) × (9 + 4 * k ≤ length (now out)) ⌝ }
+    ensures { λ r. ⌜ now (out .exit) ≡ laidAt (now (out .entry)) 9 (4 * k) (numbersBytes (asFun (now (rows .entry))) k) ⌝ }
+{
+    for j in 0..k {
+        lay_number(out, 9 + 4 * j, rows[j]);
+    }
+}
+
+// The report of m rows at the front of a buffer that has room for it.
+pub fn lay_report(out: &mut [u8], m: usize, counter: u32, rows: &[u32; 5120])
+    requires { ⌜ (m ≤ 1024) × (9 + 20 * m ≤ length (now out)) ⌝ }
+    ensures { λ r. ⌜ now (out .exit) ≡ laidReport m counter (asFun (now (rows .entry))) (now (out .entry)) ⌝ }
+{
+    out[0] = 1;
+    lay_number(out, 1, (4 + 20 * m) as u32);
+    lay_number(out, 5, counter);
+    lay_numbers(out, 5 * m, rows);
+}

@@ -1,0 +1,94 @@
+// The rules of a recording: its header, and each record by what the run keeps.
+use recording::Event;
+ghost use Prim.Native.Nat.{_+_, _*_, _^_, _≤_};
+ghost use mathlib.Core.Path.{_≡_};
+ghost use Rattle.meaning.specs.Layout.{headRefusal};
+ghost use Rattle.meaning.specs.Run.{processOf, isStart};
+ghost use Rattle.rules.specs.Rules.{refusalBy};
+
+fn wide(x: u8) -> u32
+    ensures { λ r. ⌜ r ≡ x ⌝ }
+{
+    x as u32
+}
+
+// The number in four bytes, highest first.
+fn number(a: u8, b: u8, c: u8, d: u8) -> u32
+    ensures { λ r. ⌜ r ≡ a * 2 ^ 24 + b * 2 ^ 16 + c * 2 ^ 8 + d ⌝ }
+{
+    wide(a) * 16777216 + wide(b) * 65536 + wide(c) * 256 + wide(d)
+}
+
+// The refusal of the header, or 0.
+pub fn header(s: &[u8]) -> u32
+    ensures { λ r. ⌜ r ≡ headRefusal (now (s .entry)) ⌝ }
+{
+    if s.len() < 6 {
+        return 1;
+    }
+    if s[0] != 1 {
+        return 2;
+    }
+    if 65536 < s.len() {
+        return 4;
+    }
+    let follows = number(s[1], s[2], s[3], s[4]);
+    if follows as usize != s.len() - 5 {
+        return 3;
+    }
+    if s[5] == 0 {
+        return 5;
+    }
+    if 6 < s[5] {
+        return 5;
+    }
+    0
+}
+
+pub fn process_of(e: Event) -> usize
+    ensures { λ r. ⌜ r ≡ processOf e ⌝ }
+{
+    match e {
+        Event::Step(p) => p as usize,
+        Event::Read(p) => p as usize,
+        Event::Add(p, _) => p as usize,
+    }
+}
+
+pub fn is_start(e: Event) -> bool
+    ensures { λ r. ⌜ r ≡ isStart e ⌝ }
+{
+    match e {
+        Event::Step(_) => false,
+        Event::Read(_) => true,
+        Event::Add(_, _) => true,
+    }
+}
+
+// How many processes there are.
+fn processes(h: u32) -> usize
+    requires { ⌜ h ≤ 6 ⌝ }
+    ensures { λ r. ⌜ r ≡ 2 ^ h ⌝ }
+{
+    1usize << h
+}
+
+// The refusal of a record, or 0.
+pub fn refusal(h: u32, e: Event, busy: bool, m: u32) -> u32
+    requires { ⌜ h ≤ 6 ⌝ }
+    ensures { λ r. ⌜ r ≡ refusalBy h e busy m ⌝ }
+{
+    if processes(h) <= process_of(e) {
+        return 7;
+    }
+    if is_start(e) {
+        if busy {
+            return 8;
+        }
+        if 1024 <= m {
+            return 10;
+        }
+        return 0;
+    }
+    if busy { 0 } else { 9 }
+}

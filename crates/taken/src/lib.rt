@@ -1,0 +1,1 @@
+// Which additions are in a node, told by counts, with no code.
