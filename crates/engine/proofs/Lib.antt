@@ -4,3 +4,4 @@ pub mod Runs
 pub mod Started
 pub mod Loop
 pub mod Answers
+pub mod Laws

@@ -154,10 +154,10 @@ pub fn check(s: &[u8]) -> Reply
         };
     }
     let mut rows = [0u32; 5120];
-    let e = run(s, s[5] as u32, &mut rows);
+    let last = run(s, s[5] as u32, &mut rows);
     Reply {
-        number: e.number,
-        place: e.place,
+        number: last.number,
+        place: last.place,
     }
 }
 

@@ -1,0 +1,116 @@
+/* Calls the library for the comparing program, which need not be a program for the same processor. It is told over standard input what to
+ * call, and answers over standard output. Numbers are of 4 bytes, little-endian.
+ *
+ *   LEND len 0 0, len bytes                   the recording of the calls that follow
+ *   LEND_NULL 0 0 0                           an empty recording, lent as NULL
+ *   GIVE_BACK 0 0 0                           answers the recording's bytes as they are now
+ *   CHECK 0 0 0                               answers number, place
+ *   REPORT front room back, the bytes of      answers number, place, and the bytes of all three
+ *     all three, the buffer in the middle
+ *   REPORT_NULL 0 0 0                         the same with an empty buffer, lent as NULL; answers number, place
+ *
+ * The recording and the buffer with what is around it each end where an inaccessible page begins, so that an access beyond that end stops
+ * this program. */
+#define _DEFAULT_SOURCE /* for MAP_ANONYMOUS */
+
+#include "ilvrotse.h"
+
+#include <stdlib.h>
+#include <string.h>
+#include <sys/mman.h>
+#include <unistd.h>
+
+enum { LEND, LEND_NULL, GIVE_BACK, CHECK, REPORT, REPORT_NULL };
+
+#define LARGEST (1u << 20)
+#define PAGE 65536u /* a multiple of every page size in use */
+
+static void stop(int unless)
+{
+    if (!unless)
+        _exit(3);
+}
+
+/* The end of `LARGEST` bytes with an inaccessible page behind them. */
+static uint8_t *end_of_memory(void)
+{
+    uint8_t *memory = mmap(NULL, LARGEST + PAGE, PROT_READ | PROT_WRITE, MAP_PRIVATE | MAP_ANONYMOUS, -1, 0);
+    stop(memory != MAP_FAILED);
+    stop(mprotect(memory + LARGEST, PAGE, PROT_NONE) == 0);
+    return memory + LARGEST;
+}
+
+/* Whether there were any bytes at all; part of them is an error. */
+static int take(void *to, size_t len)
+{
+    uint8_t *at = to;
+    for (size_t taken = 0; taken < len;) {
+        ssize_t more = read(0, at + taken, len - taken);
+        if (more == 0 && taken == 0)
+            return 0;
+        stop(more > 0);
+        taken += (size_t)more;
+    }
+    return 1;
+}
+
+static void give(const void *from, size_t len)
+{
+    const uint8_t *at = from;
+    while (len > 0) {
+        ssize_t given = write(1, at, len);
+        stop(given > 0);
+        at += given;
+        len -= (size_t)given;
+    }
+}
+
+int main(void)
+{
+    uint8_t *rec_end = end_of_memory();
+    uint8_t *out_end = end_of_memory();
+    uint8_t *answer_end = end_of_memory();
+    const uint8_t *rec = NULL;
+    size_t len = 0;
+    uint32_t told[4];
+    while (take(told, sizeof told)) {
+        ilvrotse_answer answer = {0, 0};
+        size_t around = 0;
+        switch (told[0]) {
+        case LEND:
+            len = told[1];
+            stop(len <= LARGEST);
+            rec = rec_end - len;
+            stop(len == 0 || take(rec_end - len, len));
+            continue;
+        case LEND_NULL:
+            len = 0;
+            rec = NULL;
+            continue;
+        case GIVE_BACK:
+            give(rec, len);
+            continue;
+        case CHECK:
+            answer = ilvrotse_check(rec, len);
+            break;
+        case REPORT:
+            around = (size_t)told[1] + told[2] + told[3];
+            stop(around <= LARGEST);
+            stop(around == 0 || take(out_end - around, around));
+            answer = ilvrotse_report(rec, len, out_end - around + told[1], told[2]);
+            break;
+        case REPORT_NULL:
+            answer = ilvrotse_report(rec, len, NULL, 0);
+            break;
+        default:
+            stop(0);
+        }
+        size_t whole = sizeof answer + around;
+        stop(whole <= LARGEST);
+        uint8_t *reply = answer_end - whole;
+        memcpy(reply, &answer, sizeof answer);
+        memcpy(reply + sizeof answer, out_end - around, around);
+        give(reply, whole);
+    }
+    return 0;
+}
