@@ -22,10 +22,10 @@ done < <(awk -F'|' '/^## From a rule/ { on = 1 } /^## What a later/ { on = 0 } o
 while IFS= read -r name; do
   seen=$((seen + 1))
   crate=${name%%::*}
-  grep -qE "pub (extern \"C\" )?fn ${name##*::}(\(|<)" crates/"$(printf %s "$crate" | tr '[:upper:]' '[:lower:]')"/src/*.rt ||
+  grep -qE "(pub )?(extern \"C\" )?fn ${name##*::}(\(|<)" crates/"$(printf %s "$crate" | tr '[:upper:]' '[:lower:]')"/src/*.rt ||
     { echo "no function $name"; bad=1; }
 done < <(awk -F'|' '/^## From a rule/ { on = 1 } /^## What a later/ { on = 0 } on && NF > 3 {
   rest = $4
   while (match(rest, /`[A-Za-z_]+::[a-z_]+`/)) { print substr(rest, RSTART + 1, RLENGTH - 2); rest = substr(rest, RSTART + RLENGTH) } }' docs/ARCHITECTURE.md)
-[ "$seen" -gt 40 ] || { echo "read only $seen names"; bad=1; }
+[ "$seen" -gt 80 ] || { echo "read only $seen names"; bad=1; }
 exit "$bad"

@@ -55,6 +55,8 @@ impl Proved {
             let mut child = Command::new(&self.program)
                 .stdin(Stdio::piped())
                 .stdout(Stdio::piped())
+                // An emulator says there what the status says too.
+                .stderr(Stdio::null())
                 .spawn()
                 .map_err(|error| format!("{}: {error}\n", self.program.display()))?;
             let input = child.stdin.take().expect("standard input is piped");

@@ -1,4 +1,4 @@
-# Read by the scripts of tests/ and bench/, from the repository's root: builds and runs programs that link the proved library.
+# Read by the scripts of tests/, bench/ and tools/, from the repository's root: builds and runs programs that link the proved library.
 #
 # The library and the printing program are for x86-64 Linux. On another processor the C programs over the library are compiled and linked
 # by the kit's own compiler, with this machine's C headers, and run under the kit's emulator, without sanitizers.
@@ -28,7 +28,6 @@ need_library() {
 
 processor=$(uname -m)
 emulated=no
-need gcc
 if [ "$processor" != x86_64 ]; then
     emulated=yes
     need rt
@@ -37,18 +36,23 @@ if [ "$processor" != x86_64 ]; then
     for part in bin/rattle-link toolchain/bin/clang toolchain/bin/qemu-x86_64 toolchain/lib/ld-linux-x86-64.so.2; do
         [ -x "$kit/$part" ] || fail "the kit has no $part for $processor"
     done
-    headers=$(echo | gcc -E -Wp,-v - 2>&1 | sed -n 's/^ /-isystem /p' | tr '\n' ' ')
 fi
+
+# headers: where this machine's C headers are, for the kit's compiler.
+headers() {
+    echo | gcc -E -Wp,-v - 2>&1 | sed -n 's/^ /-isystem /p' | tr '\n' ' '
+}
 
 # c_program OUT SOURCE ARCHIVE [WORDS..]: compiles and links; the words go to the compiler.
 c_program() {
     out=$1 source=$2 archive=$3
     shift 3
+    need gcc
     if [ "$emulated" = no ]; then
         gcc -std=c99 -Wall -Wextra -Wpedantic -Werror -I include "$@" -o "$out" "$source" $archive
     else
         # shellcheck disable=SC2086
-        "$kit/toolchain/bin/clang" --target=x86_64-linux-gnu -nostdinc $headers -std=c99 -Wall -Wextra -Wpedantic -Werror -I include \
+        "$kit/toolchain/bin/clang" --target=x86_64-linux-gnu -nostdinc $(headers) -std=c99 -Wall -Wextra -Wpedantic -Werror -I include \
             -fPIE "$@" -c -o "$out.o" "$source" &&
             "$kit/bin/rattle-link" --target x86_64-unknown-linux-gnu --toolchain "$kit/toolchain" -o "$out" "$out.o" $archive 2>"$out.linked"
     fi || fail "$source is not built"
