@@ -56,11 +56,11 @@ busy-else : (f : ℕ → Process) (p : ℕ) (r : Process) (q : ℕ) → (q ≡ p
 unfolding busy
 busy-else f p r q n = ap (λ (x : Process). not (eqb (x .step) 0)) (upd-other f p r q n)
 
-is-busy : (f : ℕ → Process) (p : ℕ) → busy f p ≡ true → 1 ≤ f p .step
+pub is-busy : (f : ℕ → Process) (p : ℕ) → busy f p ≡ true → 1 ≤ f p .step
 unfolding busy
 is-busy f p b = let n = eqb-false (f p .step) 0 (not-true (eqb (f p .step) 0) b) in omega arith
 
-is-idle : (f : ℕ → Process) (p : ℕ) → busy f p ≡ false → f p .step ≡ 0
+pub is-idle : (f : ℕ → Process) (p : ℕ) → busy f p ≡ false → f p .step ≡ 0
 unfolding busy
 is-idle f p b = eqb-true (f p .step) 0 (go (eqb (f p .step) 0) b)
   where

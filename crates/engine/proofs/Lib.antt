@@ -5,3 +5,4 @@ pub mod Started
 pub mod Loop
 pub mod Answers
 pub mod Laws
+pub mod Accepted

@@ -52,13 +52,13 @@ unfolding recordsFrom follow
 records-found most s at e next c = rw c
 
 -- what a record's event does
-take-step : (h : ℕ) (st : State) (e : Event) → isStart e ≡ false → takeEvent h st e ≡ takeStep h (processIn e) st
+pub take-step : (h : ℕ) (st : State) (e : Event) → isStart e ≡ false → takeEvent h st e ≡ takeStep h (processIn e) st
 unfolding takeEvent processIn isStart
 take-step h st (Step p) n = refl
 take-step h st (Read p) n = absurd (false-true (sym n))
 take-step h st (Add p d) n = absurd (false-true (sym n))
 
-take-start : (h : ℕ) (st : State) (e : Event) → isStart e ≡ true → takeEvent h st e ≡ start h (processIn e) (addsOf e) (deltaOf e) st
+pub take-start : (h : ℕ) (st : State) (e : Event) → isStart e ≡ true → takeEvent h st e ≡ start h (processIn e) (addsOf e) (deltaOf e) st
 unfolding takeEvent processIn isStart addsOf deltaOf
 take-start h st (Step p) n = absurd (false-true n)
 take-start h st (Read p) n = refl

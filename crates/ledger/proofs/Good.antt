@@ -100,7 +100,7 @@ module _ (h p : ℕ) (adds : Bool) (delta : ℕ) (st : State) (g : Good h st) (i
       go true e = absurd (omega (arith, g .known kind (st .operations) e))
       go false e = refl
 
-  started-row : (i : ℕ) (P : Row → Type 0) → P (newRow h p adds delta (start h p adds delta st .process) (length (st .history))) → ((i ≡ st .operations → ⊥) → P (st .row i)) → P (start h p adds delta st .row i)
+  pub started-row : (i : ℕ) (P : Row → Type 0) → P (newRow h p adds delta (start h p adds delta st .process) (length (st .history))) → ((i ≡ st .operations → ⊥) → P (st .row i)) → P (start h p adds delta st .row i)
   unfolding start
   started-row i P now before = upd-cases (st .row) (st .operations) _ P i (λ e. now) before
 
@@ -207,7 +207,7 @@ module _ (h p : ℕ) (st : State) (s : Stepping h p st) where
       upd-cases (st .process) p (recordAfter h p st) (P q) q (λ e. subst (λ (x : ℕ). P x (recordAfter h p st)) (sym e) now) (before q)
 
   -- another busy process has another operation
-  other : (q : ℕ) → (q ≡ p → ⊥) → 1 ≤ st .process q .step → st .process q .operation ≡ st .process p .operation → ⊥
+  pub other : (q : ℕ) → (q ≡ p → ⊥) → 1 ≤ st .process q .step → st .process q .operation ≡ st .process p .operation → ⊥
   other q n b e = n (s .good .apart q p b (s .acts) e)
 
   did-elsewhere : (kind : Access → Bool) (q : ℕ) → (q ≡ p → ⊥) → 1 ≤ st .process q .step
@@ -266,7 +266,7 @@ module _ (h p : ℕ) (st : State) (s : Stepping h p st) where
       go true k = absurd (omega (arith, root-read-ends turns goes k .0))
       go false k = did-still isRootRead (st .process p .operation) k ∙ s .good .unread p (s .acts)
 
-  stepped-row : (i : ℕ) (P : Row → Type 0) → (i ≡ st .process p .operation → P (rowAfter (accessBy h p st) (recordAfter h p st) (length (st .history)) (st .row (st .process p .operation)))) → ((i ≡ st .process p .operation → ⊥) → P (st .row i)) → P (takeStep h p st .row i)
+  pub stepped-row : (i : ℕ) (P : Row → Type 0) → (i ≡ st .process p .operation → P (rowAfter (accessBy h p st) (recordAfter h p st) (length (st .history)) (st .row (st .process p .operation)))) → ((i ≡ st .process p .operation → ⊥) → P (st .row i)) → P (takeStep h p st .row i)
   unfolding takeStep
   stepped-row i P now before = upd-cases (st .row) (st .process p .operation) _ P i now before
 

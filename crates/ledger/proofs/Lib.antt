@@ -9,3 +9,4 @@ pub mod Listing
 pub mod Numbers
 pub mod Keeps
 pub mod Total
+pub mod StepCount

@@ -124,7 +124,7 @@ at-link s k last from w one-five = go (ltb last (s + k))
     go false = linking (omega arith) (⊎-elim (λ e. omega arith) (λ e. omega arith) one-five)
 
 module _ (h p : ℕ) (r : Process) (m : Memory) (low : 1 ≤ h) where
-  step-is : (a : Access) → nextStep h p r m a ≡ within (r .step + effect p r m a .passes) (lastStep h (r .adds))
+  pub step-is : (a : Access) → nextStep h p r m a ≡ within (r .step + effect p r m a .passes) (lastStep h (r .adds))
   unfolding nextRecord atStep
   step-is a = ap (λ (n : ℕ). within (r .step + effect p r m a .passes) n) (steps-long h p r)
 

@@ -1,0 +1,71 @@
+-- What holds after every accepted recording: an invariant of starts and steps holds of the state that the run ends in.
+use Prim.Native.Nat.{ℕ, zero, suc, _+_, _*_, _^_, _≤_, _<_}
+use native.Mathlib.Omega.{arith}
+use mathlib.Core.Path.{_≡_, refl, sym, ap, _∙_, subst, subst⁻¹}
+use mathlib.Core.Bool.{Bool, true, false}
+use mathlib.Core.List.{List}
+use Rattle.recording.specs.Record.{Answer}
+use Rattle.recording.specs.declared.Event.{Event}
+use Rattle.meaning.specs.Layout.{Records, end, broken, event, headRefusal, height, recordsOf}
+use Rattle.meaning.specs.Run.{State, initial, busy, processOf as processIn, isStart, start, takeStep, takeEvent, recordRefusal, Outcome, refused, accepted, unless, run, outcome}
+use Rattle.rules.proofs.Laws.{Passes, header-passes, Taken, refusal-passes, refusal-is}
+use Rattle.ledger.proofs.Good.{Good, Stepping, good-step, good-start, good-initial}
+use Rattle.ledger.proofs.StepCount.{StepCount, Gone, count-step, count-start, count-initial}
+use Rattle.engine.specs.Ends.{addsOf, deltaOf}
+use Rattle.engine.proofs.Agrees.{is-busy, is-idle}
+use Rattle.engine.proofs.Runs.{take-step, take-start}
+
+-- a refusal that is none lets the run go on
+none-refused : (k at : ℕ) (o : Outcome) (st : State) → unless k at o ≡ accepted st → (k ≡ 0) × (o ≡ accepted st)
+unfolding unless
+none-refused zero at o st e = (refl, e)
+none-refused (suc k) at o st e = let z : _≡_ {A = ℕ} 0 1 = cc in absurd (omega arith)
+
+module _ (h : ℕ) (P : State → Type 0) (steps : (p : ℕ) (st : State) → Stepping h p st → P st → P (takeStep h p st))
+    (begins : (p : ℕ) (adds : Bool) (delta : ℕ) (st : State) → Good h st → p < 2 ^ h → st .process p .step ≡ 0 → st .operations < 1024 → P st → P (start h p adds delta st)) where
+  -- one record that passes
+  event-keeps : (st : State) (e : Event) → recordRefusal h st e ≡ 0 → Good h st → P st → Good h (takeEvent h st e) × P (takeEvent h st e)
+  event-keeps st e z g i = go (isStart e) refl
+    where
+      t : Taken h e (busy (st .process) (processIn e)) (st .operations)
+      t = refusal-passes h e (busy (st .process) (processIn e)) (st .operations) (refusal-is h st e ∙ z)
+
+      go : (b : Bool) → isStart e ≡ b → Good h (takeEvent h st e) × P (takeEvent h st e)
+      go true d =
+          let free = is-idle (st .process) (processIn e) (t .starts d .0) in
+          subst⁻¹ (λ (x : State). Good h x × P x) (take-start h st e d)
+          (good-start h (processIn e) (addsOf e) (deltaOf e) st g (t .inside) free (t .starts d .1), begins (processIn e) (addsOf e) (deltaOf e) st g (t .inside) free (t .starts d .1) i)
+      go false d =
+          let s : Stepping h (processIn e) st = record { good = g; inside = t .inside; acts = is-busy (st .process) (processIn e) (t .steps d) } in
+          subst⁻¹ (λ (x : State). Good h x × P x) (take-step h st e d) (good-step h (processIn e) st s, steps (processIn e) st s i)
+
+  run-keeps : (st : State) (rs : Records) (last : State) → Good h st → P st → run h st rs ≡ accepted last → Good h last × P last
+  unfolding run
+  run-keeps st end last g i e = subst (λ (x : State). Good h x × P x) same (g, i)
+    where
+      same : st ≡ last
+      same = cc
+  run-keeps st (broken at) last g i e = let z : _≡_ {A = ℕ} 0 1 = cc in absurd (omega arith)
+  run-keeps st (event at x rs) last g i e =
+      let r = none-refused (recordRefusal h st x) at _ last e in
+      let k = event-keeps st x (r .0) g i in
+      run-keeps (takeEvent h st x) rs last (k .0) (k .1) (r .1)
+
+-- the height of an accepted recording is 1 to 6, and its run is the records'
+pub accepted-run : (s : List ℕ) (st : State) → outcome s ≡ accepted st → Passes s × (run (height s) initial (recordsOf s) ≡ accepted st)
+unfolding outcome
+accepted-run s st e = let r = none-refused (headRefusal s) 0 _ st e in (header-passes s (r .0), r .1)
+
+-- an invariant of starts and steps holds of the state of every accepted recording
+pub accepted-keeps : (P : ℕ → State → Type 0) → ((h : ℕ) → P h initial) → ((h p : ℕ) (st : State) → Stepping h p st → P h st → P h (takeStep h p st))
+    → ((h p : ℕ) (adds : Bool) (delta : ℕ) (st : State) → Good h st → p < 2 ^ h → st .process p .step ≡ 0 → st .operations < 1024 → P h st → P h (start h p adds delta st))
+    → (s : List ℕ) (st : State) → outcome s ≡ accepted st → Good (height s) st × P (height s) st
+accepted-keeps P first steps begins s st e =
+    let r = accepted-run s st e in
+    run-keeps (height s) (P (height s)) (λ p x y z. steps (height s) p x y z) (λ p a d x g b f o y. begins (height s) p a d x g b f o y) initial (recordsOf s) st
+    (good-initial (height s) (r .0 .high) (r .0 .low)) (first (height s)) (r .1)
+
+-- "A finished read has 1. A finished addition has 2 + 4h + 4f, where f is its number of second attempts, 0 to h."
+pub accepted-steps : (s : List ℕ) (st : State) → outcome s ≡ accepted st → StepCount (height s) st
+accepted-steps s st e =
+    accepted-keeps StepCount count-initial (λ h p x y z. count-step h p x y z) (λ h p a d x g b f o c. count-start h p a d x g b f o c) s st e .1
