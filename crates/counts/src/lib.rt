@@ -1,8 +1,8 @@
 // How many of each leaf's additions are in the node at each level, and in what a process has read but not yet stored.
 ghost use Prim.Native.Nat.{ℕ, suc, _+_, _^_, _≤_, _<_, max};
-ghost use mathlib.Core.List.{List};
+ghost use mathlib.Core.List.{List, []};
 ghost use mathlib.Core.Path.{_≡_};
-ghost use lib.ListN.{length};
+ghost use lib.ListN.{length, getD};
 ghost use Rattle.arrays.specs.Arrays.{asFun, between};
 ghost use Rattle.counts.specs.Counts.{levels, countsOf, firstUnder, readOver, storedOver, attempted, countsAfter, CanCount};
 
@@ -39,14 +39,22 @@ fn raised(to: [u16; 64], from: [u16; 64], lo: usize, hi: usize) -> [u16; 64]
 }
 
 // The counts at a level: the leaves' own at 0.
-fn at_level(counts: [[u16; 64]; 6], written: [u16; 64], l: usize) -> [u16; 64]
+fn at_level(counts: &[[u16; 64]; 6], written: &[u16; 64], l: usize) -> [u16; 64]
     requires { ⌜ l ≤ 6 ⌝ }
-    ensures { λ r. ⌜ asFun r ≡ levels written counts l ⌝ }
+    ensures { λ r. ⌜ asFun r ≡ levels (now (written .entry)) (now (counts .entry)) l ⌝ }
 {
     if l == 0 {
-        return written;
+        return *written;
     }
     counts[l - 1]
+}
+
+// The row of counts at a level above the leaves, by value.
+pub fn row_of(counts: [[u16; 64]; 6], level: usize) -> [u16; 64]
+    requires { ⌜ level < 6 ⌝ }
+    ensures { λ r. ⌜ r ≡ getD counts level [] ⌝ }
+{
+    counts[level]
 }
 
 // The three below do nothing: through a reference a proof does not know an array's length, and learns it by their contracts.
@@ -84,7 +92,7 @@ fn read_child(
     ensures { λ r. ⌜ countsOf (now (counts .entry)) (now (written .entry)) (now (read .exit)) ≡ readOver p l lo hi (countsOf (now (counts .entry)) (now (written .entry)) (now (read .entry))) ⌝ }
 {
     sixty_four_rows(*read);
-    read[p] = copied(read[p], at_level(*counts, *written, l), lo, hi);
+    read[p] = copied(read[p], at_level(counts, written, l), lo, hi);
 }
 
 // The successful SC of process p at a node at level l + 1, for the processes lo to hi - 1.

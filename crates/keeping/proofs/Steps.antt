@@ -1,6 +1,6 @@
 -- What the arrays are after each kind of step, from what the callees promise.
 use Prim.Native.Nat.{ℕ, zero, suc, _+_, _-_, _*_, _≤_, _<_}
-use mathlib.Core.Path.{_≡_, refl, sym, ap, _∙_}
+use mathlib.Core.Path.{_≡_, refl, sym, ap, _∙_, subst}
 use mathlib.Core.Bool.{Bool, true, false}
 use mathlib.Core.List.{List, []}
 use native.Mathlib.Numerals.{add-one}
@@ -8,6 +8,7 @@ use native.Mathlib.Omega.{arith}
 use lib.ListN.{getD}
 use Rattle.meaning.specs.Steps.{upd, Process}
 use Rattle.arrays.specs.Arrays.{asFun, asRows}
+use Rattle.taken.specs.CountIn.{Waiter}
 use Rattle.counts.specs.Counts.{Counts, levels, countsOf, countsAfter}
 use Rattle.rows.specs.Rows.{withRow, steppedNumbers, RoomToStep}
 use Rattle.listing.specs.Queue.{queueOf, Lists}
@@ -83,3 +84,7 @@ unfolding keptOf
 addition-room counts counts′ read read′ written written′ queue queue′ turns turns′ rows rows′ listed listed′ h p r stored e room =
     let k : Kept = keptOf counts written read queue turns rows listed in
     room-stays (asFun rows′) room (λ j n. ap (λ (x : Kept). x .rows j) e ∙ addition-beside h p r stored k j n)
+
+-- a listing by a row of counts that is another
+pub lists-by : {ws : List Waiter} {k : ℕ} {f f′ q′ t′ : ℕ → ℕ} {r : Listed} (x y : List ℕ) → x ≡ y → Lists ws (asFun x) k f f′ q′ t′ r → Lists ws (asFun y) k f f′ q′ t′ r
+lists-by {ws} {k} {f} {f′} {q′} {t′} {r} x y e l = subst (λ (z : List ℕ). Lists ws (asFun z) k f f′ q′ t′ r) e l

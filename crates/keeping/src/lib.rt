@@ -70,7 +70,8 @@ fn list_addition(
     if stored {
         if 8 * h <= s + 5 {
             let level = (h - 1) as usize;
-            return listing::list_in(queue, turns, rows, listed, counts[level]);
+            let root = counts::row_of(*counts, level);
+            return listing::list_in(queue, turns, rows, listed, root);
         }
     }
     listed

@@ -5,7 +5,7 @@ use Rattle.counts.proofs.at_level.Statement.{statement}
 use Rattle.counts.proofs.at_level.Tie as tie
 
 returns : tie.Need-returns
-returns c = leaves-level _ _ _ (c .if1 .taken)
+returns c = leaves-level _ _ _ (c .before .if1 .taken)
 
 sub-result : tie.Need-sub-result
 sub-result c = search needs
@@ -13,11 +13,12 @@ sub-result c = search needs
 mul-result : tie.Need-mul-result
 mul-result c = search needs
 
-array-copy-out-result : tie.Need-array-copy-out-result
-array-copy-out-result c = search needs
+element-copy-out-result : tie.Need-element-copy-out-result
+element-copy-out-result c = search needs
 
 returns-2 : tie.Need-returns-2
 returns-2 c = node-level _ _ _ (c .before .if1 .left)
 
 pub at-level-spec : {M : Type 1} → statement M
-at-level-spec = tie.close (tie.spec returns sub-result mul-result array-copy-out-result returns-2)
+at-level-spec =
+    tie.close (tie.spec returns sub-result mul-result element-copy-out-result returns-2)

@@ -21,8 +21,8 @@ at-level-requires c κs = search needs
 copied-requires : tie.Need-copied-requires
 copied-requires c κs = search needs
 
-mul-t18 : tie.Need-mul-t18
-mul-t18 c = search needs
+mul-t16 : tie.Need-mul-t16
+mul-t16 c = search needs
 
 element-set-from-read : tie.Need-element-set-from-read
 element-set-from-read c = search needs
@@ -40,6 +40,6 @@ read-child-spec =
     element-copy-out-copied
     at-level-requires
     copied-requires
-    mul-t18
+    mul-t16
     element-set-from-read
     returns)

@@ -1,9 +1,9 @@
 -- `list_addition`: a leaf write joins the queue, a store at node 1 lists, and every other step leaves it.
 use native.Mathlib.Omega.{arith}
-use borrow.Author.Needs.{needs}
 use Rattle.arrays.specs.Arrays.{asFun}
 use Rattle.keeping.proofs.Laws.{at-root, below-root, not-stored}
-use Rattle.keeping.proofs.Steps.{joins, leaves, clears}
+use Rattle.keeping.proofs.Steps.{joins, leaves, clears, lists-by}
+use borrow.Author.Needs.{needs}
 use Rattle.keeping.proofs.list_addition.Statement.{statement}
 use Rattle.keeping.proofs.list_addition.Tie as tie
 
@@ -21,8 +21,8 @@ wait-requires c κs =
 take-in-requires : tie.Need-take-in-requires
 take-in-requires c κs = search needs
 
-add-t18 : tie.Need-add-t18
-add-t18 c = search needs
+add-t19 : tie.Need-add-t19
+add-t19 c = search needs
 
 returns : tie.Need-returns
 unfolding asFun
@@ -47,22 +47,20 @@ sub-level c = search needs
 cast-level : tie.Need-cast-level
 cast-level c = search needs
 
-mul-list-in : tie.Need-mul-list-in
-mul-list-in c = search needs
-
-element-copy-out-list-in : tie.Need-element-copy-out-list-in
-element-copy-out-list-in c = search needs
+row-of-requires : tie.Need-row-of-requires
+row-of-requires c κs = search needs
 
 list-in-requires : tie.Need-list-in-requires
 list-in-requires c κs = search needs
 
 returns-2 : tie.Need-returns-2
 returns-2 c =
-    let root = c .before .before .before .before .before in
-    let took = c .before .before .before .before .before .before .before in
+    let root = c .before .before .before .before .before .before in
+    let took = c .before .before .before .before .before .before .before .before in
     let first = took .before .before .before .before in
     clears _ _ _ _ _ _ _ _ _ _ _ _ _ _ (took .take-in2 .ensures) _ _ _ (first .if1 .left) (first .before .pre .low)
-    (at-root _ _ (root .before .if2 .taken) (omega (arith, root .if3 .taken))) (c .list-in .ensures)
+    (at-root _ _ (root .before .if2 .taken) (omega (arith, root .if3 .taken)))
+    (lists-by _ _ (c .before .before .before .before .row-of .ensures) (c .list-in .ensures))
 
 returns-3 : tie.Need-returns-3
 returns-3 c =
@@ -82,15 +80,14 @@ list-addition-spec =
     element-copy-out-wait
     wait-requires
     take-in-requires
-    add-t18
+    add-t19
     returns
     take-in-requires-2
     mul-if3
     add-if3
     sub-level
     cast-level
-    mul-list-in
-    element-copy-out-list-in
+    row-of-requires
     list-in-requires
     returns-2
     returns-3
