@@ -65,7 +65,8 @@ accepted-keeps P first steps begins s st e =
     run-keeps (height s) (P (height s)) (λ p x y z. steps (height s) p x y z) (λ p a d x g b f o y. begins (height s) p a d x g b f o y) initial (recordsOf s) st
     (good-initial (height s) (r .0 .high) (r .0 .low)) (first (height s)) (r .1)
 
--- "A finished read has 1. A finished addition has 2 + 4h + 4f, where f is its number of second attempts, 0 to h."
+-- "A finished read has 1. A finished addition has 2 + 4h + 4f, where f is its number of second attempts, 0 to h."; "no addition has taken
+-- 2 + 8h steps and is still unfinished"; no row has more
 pub accepted-steps : (s : List ℕ) (st : State) → outcome s ≡ accepted st → StepCount (height s) st
 accepted-steps s st e =
     accepted-keeps StepCount count-initial (λ h p x y z. count-step h p x y z) (λ h p a d x g b f o c. count-start h p a d x g b f o c) s st e .1

@@ -197,7 +197,7 @@ module _ (h p : ℕ) (st : State) (s : Stepping h p st) where
   pub same-adds : recordAfter h p st .adds ≡ st .process p .adds
   same-adds = ap (λ (q : ℕ × Bool × ℕ). q .1) same-job
 
-  in-range : recordAfter h p st .step ≤ lastStep h (recordAfter h p st .adds)
+  pub in-range : recordAfter h p st .step ≤ lastStep h (recordAfter h p st .adds)
   unfolding nextRecord atStep
   in-range = rw (same-adds, ← steps-long h p (st .process p)) (within-le _ _)
 

@@ -1,5 +1,5 @@
 -- How many steps an operation has taken, by its step number: a finished read has 1, and a finished addition 2 + 4h + 4f, where f is its
--- number of second attempts, 0 to h.
+-- number of second attempts, 0 to h. An unfinished addition has fewer than 2 + 8h.
 use Prim.Native.Nat.{ℕ, zero, suc, _+_, _-_, _*_, _/_, _%_, _^_, _≤_, _<_}
 use native.Mathlib.Omega.{arith}
 use mathlib.Core.Path.{_≡_, refl, sym, ap, ap₂, _∙_, subst, subst₂}
@@ -19,7 +19,7 @@ use Rattle.machine.specs.Does.{attemptOf}
 use Rattle.machine.specs.Nexts.{lastStep, CanTry}
 use Rattle.machine.proofs.Laws.{last-addition, last-read, steps-long}
 use Rattle.ledger.proofs.Turns.{nodeAt, Turn, root, leaf, write, link, leftward, rightward, store, Next, after-root, after-leaf, after-write, after-link, after-left, after-right, after-store, step-is}
-use Rattle.ledger.proofs.Good.{Good, Stepping, accessBy, effectBy, recordAfter, turns, goes, same-operation, same-adds, by-stepper, by-process, stepped-row, started-row, other, false-true}
+use Rattle.ledger.proofs.Good.{Good, Stepping, accessBy, effectBy, recordAfter, turns, goes, same-operation, same-adds, in-range, by-stepper, by-process, stepped-row, started-row, other, false-true}
 
 -- 1 where the second attempt's LL has been taken at position i of the eight steps at a node
 abbrev oneIf : Bool → ℕ
@@ -39,6 +39,14 @@ begun-cases i = go (leb 5 i) refl
 pub record Going (s n f : ℕ) : Type 0 where
   pub early : s ≤ 2 → (n + 1 ≡ s) × (f ≡ 0)
   pub late : 3 ≤ s → (n + 4 * begun ((s - 3) % 8) ≡ 2 + 4 * ((s - 3) / 8) + 4 * f + (s - 3) % 8) × (f ≤ (s - 3) / 8 + begun ((s - 3) % 8))
+
+-- it has taken fewer steps than its step number
+going-few : (s n f : ℕ) → 1 ≤ s → Going s n f → n < s
+going-few s n f b g = go (leb 3 s) refl
+  where
+    go : (t : Bool) → leb 3 s ≡ t → n < s
+    go true e = let v = leb-true 3 s e in let q = g .late v in omega (arith, q .0, q .1)
+    go false e = let v = leb-false 3 s e in let q = g .early (omega arith) in omega (arith, q .0)
 
 -- one that has finished
 abbrev pub Gone : ℕ → ℕ → ℕ → Type 0
@@ -191,11 +199,17 @@ pub record StepCount (h : ℕ) (st : State) : Type 0 where
       → Going (st .process p .step) (st .row (st .process p .operation) .steps) (st .row (st .process p .operation) .seconds)
   pub read : (i : ℕ) → st .row i .finished ≡ true → st .row i .kind ≡ 2 → st .row i .steps ≡ 1
   pub added : (i : ℕ) → st .row i .finished ≡ true → st .row i .kind ≡ 3 → Gone h (st .row i .steps) (st .row i .seconds)
+  pub few : (i : ℕ) → st .row i .steps ≤ 2 + 8 * h
+  pub short : (i : ℕ) → st .row i .finished ≡ false → st .row i .steps < 2 + 8 * h
 
 kind-two : (t : Bool) → kindOf t ≡ 2 → t ≡ false
 unfolding kindOf
 kind-two true e = absurd (omega arith)
 kind-two false e = refl
+
+not-done : (s : ℕ) → eqb s 0 ≡ false → 1 ≤ s
+not-done zero e = absurd (false-true (sym e))
+not-done (suc s) e = omega arith
 
 kind-three : (t : Bool) → kindOf t ≡ 3 → t ≡ true
 unfolding kindOf
@@ -275,6 +289,19 @@ module _ (h p : ℕ) (st : State) (s : Stepping h p st) (c : StepCount h st) whe
       × (recordAfter h p st .step ≡ 0 → Gone h (suc (w .steps)) (w .seconds + oneIf (isSecondLink (accessBy h p st))))
   moves d = addition (turns h p st s) (goes h p st s) refl d
 
+  -- a busy operation has room for one more step, and after it for another where it is not finished
+  before : (t : Bool) → st .process p .adds ≡ t → w .steps < 2 + 8 * h
+  before true e =
+      let b = going-few _ _ _ (s .acts) (c .adding p (s .acts) e) in
+      omega (arith, s .good .range p, last-addition h (st .process p .adds) e)
+  before false e = omega (arith, c .reading p (s .acts) e)
+
+  after : (t : Bool) → st .process p .adds ≡ t → 1 ≤ recordAfter h p st .step → suc (w .steps) < 2 + 8 * h
+  after true e b =
+      let m = going-few _ _ _ b (moves e .0 b) in
+      omega (arith, in-range h p st s, last-addition h (recordAfter h p st .adds) (same-adds h p st s ∙ e))
+  after false e b = absurd (omega (arith, read-ends e))
+
   pub count-step : StepCount h (takeStep h p st)
   unfolding rowAfter
   count-step =
@@ -292,6 +319,9 @@ module _ (h p : ℕ) (st : State) (s : Stepping h p st) (c : StepCount h st) whe
             (λ e f k. ap suc (c .reading p (s .acts) (kind-two (st .process p .adds) (sym (c .kinds p (s .acts)) ∙ k)))) (λ n. c .read i);
         added = λ i. stepped-row h p st s i (λ x. x .finished ≡ true → x .kind ≡ 3 → Gone h (x .steps) (x .seconds))
             (λ e f k. moves (kind-three (st .process p .adds) (sym (c .kinds p (s .acts)) ∙ k)) .1 (eqb-true (recordAfter h p st .step) 0 f)) (λ n. c .added i);
+        few = λ i. stepped-row h p st s i (λ x. x .steps ≤ 2 + 8 * h) (λ e. before (st .process p .adds) refl) (λ n. c .few i);
+        short = λ i. stepped-row h p st s i (λ x. x .finished ≡ false → x .steps < 2 + 8 * h)
+            (λ e f. after (st .process p .adds) refl (not-done (recordAfter h p st .step) f)) (λ n. c .short i);
       }
 
 -- ---- a start, and the beginning
@@ -319,6 +349,8 @@ module _ (h p : ℕ) (adds : Bool) (delta : ℕ) (st : State) (g : Good h st) (i
             (λ q n b d. old-row (λ x. Going (st .process q .step) (x .steps) (x .seconds)) q b (c .adding q b d));
         read = λ i. started-row h p adds delta st g inside free room i (λ x. x .finished ≡ true → x .kind ≡ 2 → x .steps ≡ 1) (λ f k. absurd (false-true f)) (λ n. c .read i);
         added = λ i. started-row h p adds delta st g inside free room i (λ x. x .finished ≡ true → x .kind ≡ 3 → Gone h (x .steps) (x .seconds)) (λ f k. absurd (false-true f)) (λ n. c .added i);
+        few = λ i. started-row h p adds delta st g inside free room i (λ x. x .steps ≤ 2 + 8 * h) (omega arith) (λ n. c .few i);
+        short = λ i. started-row h p adds delta st g inside free room i (λ x. x .finished ≡ false → x .steps < 2 + 8 * h) (λ f. omega arith) (λ n. c .short i);
       }
 
 pub count-initial : (h : ℕ) → StepCount h initial
@@ -330,4 +362,6 @@ count-initial h =
       adding = λ p b d. absurd (omega arith);
       read = λ i f k. absurd (false-true f);
       added = λ i f k. absurd (false-true f);
+      few = λ i. omega arith;
+      short = λ i f. omega arith;
     }
