@@ -7,10 +7,12 @@ use mathlib.Core.List.{List}
 use Rattle.recording.specs.Record.{Answer}
 use Rattle.recording.specs.declared.Event.{Event}
 use Rattle.meaning.specs.Layout.{Records, end, broken, event, headRefusal, height, recordsOf}
+use Rattle.meaning.specs.Alone.{alone}
 use Rattle.meaning.specs.Run.{State, initial, busy, processOf as processIn, isStart, start, takeStep, takeEvent, recordRefusal, Outcome, refused, accepted, unless, run, outcome}
 use Rattle.rules.proofs.Laws.{Passes, header-passes, Taken, refusal-passes, refusal-is}
 use Rattle.ledger.proofs.Good.{Good, Stepping, good-step, good-start, good-initial}
 use Rattle.ledger.proofs.StepCount.{StepCount, Gone, count-step, count-start, count-initial}
+use Rattle.ledger.proofs.Alone.{alone-ends}
 use Rattle.engine.specs.Ends.{addsOf, deltaOf}
 use Rattle.engine.proofs.Agrees.{is-busy, is-idle}
 use Rattle.engine.proofs.Runs.{take-step, take-start}
@@ -65,8 +67,17 @@ accepted-keeps P first steps begins s st e =
     run-keeps (height s) (P (height s)) (λ p x y z. steps (height s) p x y z) (λ p a d x g b f o y. begins (height s) p a d x g b f o y) initial (recordsOf s) st
     (good-initial (height s) (r .0 .high) (r .0 .low)) (first (height s)) (r .1)
 
+counted : (s : List ℕ) (st : State) → outcome s ≡ accepted st → Good (height s) st × StepCount (height s) st
+counted s st e = accepted-keeps StepCount count-initial (λ h p x y z. count-step h p x y z) (λ h p a d x g b f o c. count-start h p a d x g b f o c) s st e
+
 -- "A finished read has 1. A finished addition has 2 + 4h + 4f, where f is its number of second attempts, 0 to h."; "no addition has taken
 -- 2 + 8h steps and is still unfinished"; no row has more
 pub accepted-steps : (s : List ℕ) (st : State) → outcome s ≡ accepted st → StepCount (height s) st
-accepted-steps s st e =
-    accepted-keeps StepCount count-initial (λ h p x y z. count-step h p x y z) (λ h p a d x g b f o c. count-start h p a d x g b f o c) s st e .1
+accepted-steps s st e = counted s st e .1
+
+-- "from the state after any accepted recording a busy process that alone is stepped becomes idle within that number": within what its
+-- operation has not yet used of 2 + 8h, and the rows are then as above
+pub accepted-alone : (s : List ℕ) (st : State) → outcome s ≡ accepted st → (p k : ℕ)
+    → (1 ≤ st .process p .step → 2 + 8 * height s ≤ st .row (st .process p .operation) .steps + k)
+    → (alone (height s) p k st .process p .step ≡ 0) × StepCount (height s) (alone (height s) p k st)
+accepted-alone s st e p k enough = let c = counted s st e in alone-ends (height s) p k st (c .0) (c .1) enough

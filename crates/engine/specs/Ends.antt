@@ -16,7 +16,7 @@ use Rattle.rows.proofs.Laws.{RowFits}
 use Rattle.engine.specs.declared.Ended.{Ended}
 use Rattle.engine.specs.declared.Reply.{Reply}
 
--- the answer in document 01's numbers
+-- the answer in the table's numbers
 unfoldable pub answerOf : Reply → Answer
 answerOf r = record { number = r .number; place = r .place }
 

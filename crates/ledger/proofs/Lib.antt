@@ -10,3 +10,4 @@ pub mod Numbers
 pub mod Keeps
 pub mod Total
 pub mod StepCount
+pub mod Alone

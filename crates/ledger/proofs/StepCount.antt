@@ -207,7 +207,7 @@ unfolding kindOf
 kind-two true e = absurd (omega arith)
 kind-two false e = refl
 
-not-done : (s : ℕ) → eqb s 0 ≡ false → 1 ≤ s
+pub not-done : (s : ℕ) → eqb s 0 ≡ false → 1 ≤ s
 not-done zero e = absurd (false-true (sym e))
 not-done (suc s) e = omega arith
 

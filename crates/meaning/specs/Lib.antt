@@ -4,6 +4,7 @@ pub mod Tree
 pub mod Access
 pub mod Steps
 pub mod Run
+pub mod Alone
 pub mod TakenIn
 pub mod Report
 pub mod Printed

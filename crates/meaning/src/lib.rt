@@ -1,1 +1,1 @@
-// Document 01 as definitions (specs/), with no code.
+// The rules of a recording and of its report as definitions (specs/), with no code.

@@ -11,7 +11,7 @@ use Rattle.recording.specs.declared.Event.the-variants.{Step, Read, Add}
 use Rattle.recording.specs.declared.Cut.{Cut}
 use Rattle.recording.specs.declared.Cut.the-variants.{Found, Broken, End}
 
--- An answer in document 01's numbers: a refusal number, or 0, and a place.
+-- An answer in the table's numbers: a refusal number, or 0, and a place.
 pub record Answer : Type 0 where
   pub number : ℕ
   pub place : ℕ
@@ -51,7 +51,7 @@ cutAt s at =
     (cond (whole s at) (Found (eventAt s at) (at + 1 + getD s at 0))
     (Broken at))
 
--- document 01's number and place for each case: the next place, "6 with that record's offset", the end
+-- the tabled number and place for each case: the next place, "6 with that record's offset", the end
 unfoldable pub cutAnswer : Cut → Answer
 cutAnswer (Found e next) = record { number = 0; place = next }
 cutAnswer (Broken at) = record { number = 6; place = at }

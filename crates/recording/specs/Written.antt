@@ -19,7 +19,7 @@ writeAnswer e room = record { number = cond (leb (length (bytesOf e)) room) 0 11
 unfoldable pub writeBuffer : Event → List ℕ → List ℕ
 writeBuffer e buf = cond (leb (length (bytesOf e)) (length buf)) (bytesOf e ++ drop (length (bytesOf e)) buf) buf
 
--- document 01's number and place for each case
+-- the tabled number and place for each case
 unfoldable pub writtenAnswer : Written → Answer
 writtenAnswer (Laid k) = record { number = 0; place = k }
 writtenAnswer (NoRoom k) = record { number = 11; place = k }
