@@ -1,15 +1,13 @@
 -- A process stepped alone becomes idle before its operation has taken more than 2 + 8h steps.
 use Prim.Native.Nat.{ℕ, zero, suc, _+_, _*_, _^_, _≤_, _<_}
 use native.Mathlib.Omega.{arith}
-use mathlib.Core.Path.{_≡_, refl, sym, ap, _∙_, subst}
+use mathlib.Core.Path.{_≡_, refl}
 use mathlib.Core.Bool.{Bool, true, false, not, cond}
-use mathlib.Core.List.{List}
-use lib.ListN.{length}
-use lib.Dec.{leb, ltb, eqb}
+use lib.Dec.{ltb, eqb}
 use borrow.Author.Tests.{ltb-true, ltb-false, eqb-true}
-use Rattle.meaning.specs.Run.{Row, State, busy, rowAfter, takeStep}
+use Rattle.meaning.specs.Run.{State, busy, rowAfter, takeStep}
 use Rattle.meaning.specs.Alone.{alone}
-use Rattle.ledger.proofs.Good.{Good, Stepping, recordAfter, same-operation, by-stepper, stepped-row, good-step, false-true}
+use Rattle.ledger.proofs.Good.{Good, Stepping, recordAfter, same-operation, by-stepper, stepped-row, good-step}
 use Rattle.ledger.proofs.StepCount.{StepCount, not-done, count-step}
 
 -- no process beyond the tree is busy

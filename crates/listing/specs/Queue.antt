@@ -7,7 +7,6 @@ use lib.ListN.{length}
 use lib.Dec.{ltb}
 use Rattle.meaning.specs.Steps.{upd}
 use Rattle.meaning.specs.TakenIn.{keep}
-use Rattle.arrays.specs.Arrays.{asFun}
 use Rattle.taken.specs.CountIn.{Waiter}
 use Rattle.listing.specs.declared.Listed.{Listed}
 
