@@ -29,7 +29,7 @@ use Rattle.ledger.proofs.Under.{same-level, Within, under-left, under-r
 -- ---- one more entry
 
 module _ (h : ℕ) (e : Entry) (es : List Entry) where
-  count-unwritten : isLeafWrite (e .access) ≡ false → (q : ℕ) → countIn h 0 q (e ∷ es) ≡ countIn h 0 q es
+  pub count-unwritten : isLeafWrite (e .access) ≡ false → (q : ℕ) → countIn h 0 q (e ∷ es) ≡ countIn h 0 q es
   unfolding countIn writesBy
   count-unwritten n q = rw n (add-zero (writesBy q es))
 
@@ -55,7 +55,7 @@ module _ (h : ℕ) (e : Entry) (es : List Entry) where
   count-still w n zero q = count-unwritten w q
   count-still w n (suc l) q = count-unstored n l q
 
-  before-other : (x y : ℕ) → (x ≡ e .process → ⊥) → beforeRead x y (e ∷ es) ≡ beforeRead x y es
+  pub before-other : (x y : ℕ) → (x ≡ e .process → ⊥) → beforeRead x y (e ∷ es) ≡ beforeRead x y es
   unfolding beforeRead
   before-other x y n = rw (ne-eqb x (e .process) n, and-no (isReadOf y (e .access)))
     where
@@ -63,11 +63,11 @@ module _ (h : ℕ) (e : Entry) (es : List Entry) where
       and-no true = refl
       and-no false = refl
 
-  before-not : (x y : ℕ) → isReadOf y (e .access) ≡ false → beforeRead x y (e ∷ es) ≡ beforeRead x y es
+  pub before-not : (x y : ℕ) → isReadOf y (e .access) ≡ false → beforeRead x y (e ∷ es) ≡ beforeRead x y es
   unfolding beforeRead
   before-not x y n = rw n
 
-  before-it : (y : ℕ) → isReadOf y (e .access) ≡ true → beforeRead (e .process) y (e ∷ es) ≡ es
+  pub before-it : (y : ℕ) → isReadOf y (e .access) ≡ true → beforeRead (e .process) y (e ∷ es) ≡ es
   unfolding beforeRead
   before-it y n = rw (n, eq-eqb (e .process) (e .process) refl)
 

@@ -5,7 +5,7 @@ use mathlib.Core.Logic.{_⊎_, inl, inr}
 use mathlib.Core.Bool.{Bool, true, false, _&&_, _||_}
 use mathlib.Core.List.{List, [], _∷_}
 use lib.Dec.{eqb}
-use borrow.Author.Tests.{eqb-true, ne-eqb}
+use borrow.Author.Tests.{eqb-true, eq-eqb, ne-eqb}
 use Rattle.meaning.specs.Access.{Access, isLeafWrite}
 use Rattle.meaning.specs.Run.{Entry}
 use Rattle.meaning.specs.TakenIn.{inLeaf}
@@ -22,6 +22,10 @@ did-leaf i (e ∷ es) = ap (λ (t : Bool). t || (isLeafWrite (e .access) && eqb 
 or-none : (a b : Bool) → b ≡ false → (a || b) ≡ a
 or-none true b e = refl
 or-none false b e = e
+
+or-all : (a : Bool) → (a || true) ≡ true
+or-all true = refl
+or-all false = refl
 
 or-either : (a b : Bool) → (a || b) ≡ true → (a ≡ true) ⊎ (b ≡ true)
 or-either true b e = inl refl
@@ -58,3 +62,11 @@ module _ (kind : Access → Bool) (i : ℕ) (e : Entry) (es : List Entry) where
       go : (did kind i es ≡ true) ⊎ ((kind (e .access) && eqb i (e .operation)) ≡ true) → (did kind i es ≡ true) ⊎ ((kind (e .access) ≡ true) × (i ≡ e .operation))
       go (inl w) = inl w
       go (inr w) = inr (and-left _ _ w, eqb-true i (e .operation) (and-right (kind (e .access)) _ w))
+
+  pub did-now : kind (e .access) ≡ true → i ≡ e .operation → did kind i (e ∷ es) ≡ true
+  unfolding did
+  did-now k d = rw (k, eq-eqb i (e .operation) d) (or-all (did kind i es))
+
+  pub did-on : did kind i es ≡ true → did kind i (e ∷ es) ≡ true
+  unfolding did
+  did-on d = rw d

@@ -234,7 +234,7 @@ module _ (h p : ℕ) (st : State) (s : Stepping h p st) where
   own-fresh (store e c w) (after-store (linking z y)) eq b f = absurd (omega (arith, f e))
 
   -- a root read ends its operation, and is no addition's
-  root-read-ends : {a : Access} → Turn h p (st .process p) a → Next (st .process p) (recordAfter h p st .step) a → isRootRead a ≡ true
+  pub root-read-ends : {a : Access} → Turn h p (st .process p) a → Next (st .process p) (recordAfter h p st .step) a → isRootRead a ≡ true
       → (recordAfter h p st .step ≡ 0) × (st .process p .adds ≡ false)
   unfolding isRootRead
   root-read-ends (root e w) (after-root z) k = (z, e)

@@ -24,7 +24,7 @@ use Rattle.rows.specs.Rows.{withRow, steppedNumbers}
 use Rattle.listing.specs.Queue.{isCounted, operationsOf, ranked}
 use Rattle.listing.proofs.Laws.{keep-append, Distinct, nothing, another}
 use Rattle.ledger.specs.Kept.{Kept, countsThen, atRoot, secondLink, queueThen, listThen, waitThen, rowThen, readStep, additionStep, keptStep, keptStart}
-use Rattle.ledger.proofs.Turns.{nodeAt, Turn, root, leaf, write, link, leftward, rightward, store, Next}
+use Rattle.ledger.proofs.Turns.{nodeAt, Turn, root, leaf, write, link, leftward, rightward, store, Next, reads-the-root, reads-no-root}
 use Rattle.ledger.proofs.Did.{did, did-leaf, did-not}
 use Rattle.ledger.proofs.Good.{Good, Stepping, accessBy, effectBy, recordAfter, entryBy, turns, goes, good-step, good-start, false-true}
 use Rattle.ledger.proofs.Under.{same-level}
@@ -32,6 +32,7 @@ use Rattle.ledger.proofs.Counted.{Counted, counted-step, counted-start,
 use Rattle.ledger.proofs.Kept.{mem-keep, keep-same, mem-operations, absent}
 use Rattle.ledger.proofs.Waiters.{NewOrOld, old, new, new-or-old, rootCount, waiter-writes, same-waiter, distinct-waiters, count-cap, newly, placed-is}
 use Rattle.ledger.proofs.Listing.{IsListed, read, taken, who-is-listed, placed-read, waitingOf, placed-queue, waiting-still, waiting-write, none-counted, all-wait, length-listed}
+use Rattle.ledger.proofs.Placed.{unlisted, read-unlisted}
 use Rattle.ledger.proofs.Numbers.{Numbers, numbers-listed, numbers-stepped, numbers-started}
 
 pub record Keeps (h : ℕ) (st : State) (k : Kept) : Type 0 where
@@ -101,34 +102,7 @@ module _ (h p : ℕ) (st : State) (s : Stepping h p st) (k : Kept) (K : Keeps h 
       go (old n) = K .writers w n
       go (new d x) = rw x (s .inside)
 
-  -- a waiting operation is not listed
-  unlisted : (w : Waiter) → List·Memᴰ w (waitingOf h (st .history)) → List·Memᴰ (w .operation) (listed h (st .history)) → ⊥
-  unlisted w m l = go (who-is-listed h (st .history) (s .good .once) (w .operation) l)
-    where
-      its : List·Memᴰ w (waiters (st .history)) × (not (isCounted (rootCount h (st .history)) w) ≡ true)
-      its = mem-keep _ (waiters (st .history)) m
-
-      go : IsListed h (st .history) (w .operation) → ⊥
-      go (read d) =
-          false-true (sym (s .good .kinds (w .operation) (sym (did-leaf (w .operation) (st .history)) ∙ written (waiter-writes (st .history) w (its .0)))) ∙ d)
-      go (taken v n i c) =
-          let same : v ≡ w = same-waiter (st .history) v w (s .good .once) n (its .0) i in
-          false-true (sym (ap not (ap (isCounted (rootCount h (st .history))) (sym same) ∙ c)) ∙ its .1)
-
   -- ---- a read's one step
-
-  read-unlisted : st .process p .adds ≡ false → (i : ℕ) → List·Memᴰ i (st .process p .operation ∷ []) → List·Memᴰ i (listed h (st .history)) → ⊥
-  read-unlisted reads i m l = go (who-is-listed h (st .history) (s .good .once) i l)
-    where
-      its : i ≡ st .process p .operation
-      its = List·Memᴰ·eq-of-singleton m
-
-      go : IsListed h (st .history) i → ⊥
-      go (read d) = false-true (sym (s .good .unread p (s .acts)) ∙ ap (λ (x : ℕ). did isRootRead x (st .history)) (sym its) ∙ d)
-      go (taken v n j c) =
-          false-true
-          (sym (s .good .fresh p (s .acts) (λ a. absurd (false-true (sym reads ∙ a))))
-          ∙ sym (did-leaf (st .process p .operation) (st .history)) ∙ ap (λ (x : ℕ). inLeaf x (st .history)) (sym (j ∙ its)) ∙ written (waiter-writes (st .history) v n))
 
   -- nothing is counted that was not before
   Uncounted : Type 0
@@ -177,8 +151,8 @@ module _ (h p : ℕ) (st : State) (s : Stepping h p st) (k : Kept) (K : Keeps h 
       record {
         counts = subst (Counted h (takeStep h p st)) (then-read p (st .process p) (effectBy h p st .stored) (k .counts) reads) (counted-step h p st s (k .counts) (K .counts));
         queue = K .queue ∙ sym (waiting-still h (entryBy h p st) (st .history) once (ap isLeafWrite is) ∙ all-wait h (entryBy h p st) (st .history) _ (same-count-uncounted (λ q b. quiet q)));
-        listing = omega (arith, K .listing, length-listed h (entryBy h p st) (st .history) (o ∷ []) ps apart (read-unlisted reads));
-        rows = step-row (o ∷ []) ps apart (read-unlisted reads) (recordAfter h p st .seen) false (ap (λ (t : Bool). cond t (recordAfter h p st .seen) 0) (sym isRead)) (sym (ap isSecondLink is));
+        listing = omega (arith, K .listing, length-listed h (entryBy h p st) (st .history) (o ∷ []) ps apart (read-unlisted h p st s reads));
+        rows = step-row (o ∷ []) ps apart (read-unlisted h p st s reads) (recordAfter h p st .seen) false (ap (λ (t : Bool). cond t (recordAfter h p st .seen) 0) (sym isRead)) (sym (ap isSecondLink is));
         writers = writers-step;
       }
 
@@ -228,7 +202,7 @@ module _ (h p : ℕ) (st : State) (s : Stepping h p st) (k : Kept) (K : Keeps h 
     new-to-list : (i : ℕ) → List·Memᴰ i (operationsOf (keep now joinedQueue)) → List·Memᴰ i (listed h (st .history)) → ⊥
     new-to-list i m l =
         let r = mem-operations (keep now (waitingOf h (st .history))) (subst (λ (x : List Waiter). List·Memᴰ i (operationsOf x)) now-listed m) in
-        unlisted (r .0) (mem-keep now (waitingOf h (st .history)) (r .1) .0) (subst (λ (x : ℕ). List·Memᴰ x (listed h (st .history))) (sym (r .2)) l)
+        unlisted h p st s (r .0) (mem-keep now (waitingOf h (st .history)) (r .1) .0) (subst (λ (x : ℕ). List·Memᴰ x (listed h (st .history))) (sym (r .2)) l)
 
     -- as if every step listed
     addition-lists : (c : Counts) → Counted h (takeStep h p st) c
@@ -244,25 +218,6 @@ module _ (h p : ℕ) (st : State) (s : Stepping h p st) (k : Kept) (K : Keeps h 
         }
 
   -- ---- by the step number, as the code goes
-
-  pub reads-the-root : {a : Access} → Turn h p (st .process p) a → st .process p .adds ≡ false → a ≡ readsRoot
-  reads-the-root (root e w) d = refl
-  reads-the-root (leaf e w) d = absurd (false-true (sym d ∙ e))
-  reads-the-root (write e w) d = absurd (false-true (sym d ∙ e))
-  reads-the-root (link e c w) d = absurd (false-true (sym d ∙ e))
-  reads-the-root (leftward e c w) d = absurd (false-true (sym d ∙ e))
-  reads-the-root (rightward e c w) d = absurd (false-true (sym d ∙ e))
-  reads-the-root (store e c w) d = absurd (false-true (sym d ∙ e))
-
-  pub reads-no-root : {a : Access} → Turn h p (st .process p) a → st .process p .adds ≡ true → isRootRead a ≡ false
-  unfolding isRootRead
-  reads-no-root (root e w) d = absurd (false-true (sym e ∙ d))
-  reads-no-root (leaf e w) d = refl
-  reads-no-root (write e w) d = refl
-  reads-no-root (link e c w) d = refl
-  reads-no-root (leftward e c w) d = refl
-  reads-no-root (rightward e c w) d = refl
-  reads-no-root (store e c w) d = refl
 
   second-case : {a : Access} → Turn h p (st .process p) a → st .process p .adds ≡ true → secondLink (st .process p .step) ≡ isSecondLink a
   unfolding secondLink isSecondLink attemptOf

@@ -7,6 +7,7 @@ pub mod Kept
 pub mod Waiters
 pub mod Listing
 pub mod Numbers
+pub mod Placed
 pub mod Keeps
 pub mod Total
 pub mod StepCount

@@ -15,7 +15,7 @@ use Rattle.taken.specs.CountIn.{writesBy, countIn, Waiter, waiterOf, waiters}
 use Rattle.taken.proofs.Agree.{Once, none, more}
 use Rattle.listing.specs.Queue.{isCounted, operationsOf, ranked}
 use Rattle.listing.proofs.Laws.{keep-append, Distinct, nothing, another, listed-some, ranked-absent, ranked-at}
-use Rattle.ledger.proofs.Did.{did, did-cases}
+use Rattle.ledger.proofs.Did.{did, did-cases, did-now, did-on}
 use Rattle.ledger.proofs.Good.{false-true}
 use Rattle.ledger.proofs.Kept.{mem-keep, keep-same, keep-keep, keep-all, keep-none, mem-operations, found, absent, position-first, position-second, position-neither}
 use Rattle.ledger.proofs.Waiters.{rootCount, newly, placed-is, waiters-write, waiters-still, same-waiter, distinct-waiters, count-cap, count-grows}
@@ -36,21 +36,9 @@ pub placed-read : (h : ℕ) (e : Entry) (es : List Entry) → isRootRead (e .acc
 unfolding placed
 placed-read h e es k = rw k
 
-still-waits : (e : Entry) (es : List Entry) (w : Waiter) → List·Memᴰ w (waiters es) → List·Memᴰ w (waiters (e ∷ es))
+pub still-waits : (e : Entry) (es : List Entry) (w : Waiter) → List·Memᴰ w (waiters es) → List·Memᴰ w (waiters (e ∷ es))
 unfolding waiters
 still-waits e es w m = Memᴰ·append-left _ m
-
-did-here : (i : ℕ) (e : Entry) (es : List Entry) → isRootRead (e .access) ≡ true → i ≡ e .operation → did isRootRead i (e ∷ es) ≡ true
-unfolding did
-did-here i e es k d = rw (k, eq-eqb i (e .operation) d) (or-all (did isRootRead i es))
-  where
-    or-all : (t : Bool) → (t || true) ≡ true
-    or-all true = refl
-    or-all false = refl
-
-did-on : (i : ℕ) (e : Entry) (es : List Entry) → did isRootRead i es ≡ true → did isRootRead i (e ∷ es) ≡ true
-unfolding did
-did-on i e es d = rw d
 
 pub who-is-listed : (h : ℕ) (es : List Entry) → Once es → (i : ℕ) → List·Memᴰ i (listed h es) → IsListed h es i
 unfolding listed
@@ -59,11 +47,11 @@ who-is-listed h (e ∷ es) (more f o) i m =
     ⊎-elim (λ a. before (who-is-listed h es o i a)) (λ b. go (isRootRead (e .access)) refl b) (List·Memᴰ·append-cases (listed h es) m)
   where
     before : IsListed h es i → IsListed h (e ∷ es) i
-    before (read d) = read (did-on i e es d)
+    before (read d) = read (did-on isRootRead i e es d)
     before (taken w a b c) = taken w (still-waits e es w a) b (counted-on h e es w c)
 
     go : (t : Bool) → isRootRead (e .access) ≡ t → List·Memᴰ i (placed h e es) → IsListed h (e ∷ es) i
-    go true k n = read (did-here i e es k (List·Memᴰ·eq-of-singleton (subst (List·Memᴰ i) (placed-read h e es k) n)))
+    go true k n = read (did-now isRootRead i e es k (List·Memᴰ·eq-of-singleton (subst (List·Memᴰ i) (placed-read h e es k) n)))
     go false k n =
         let r = mem-operations (keep (newly h e es (more f o)) (waiters es)) (subst (List·Memᴰ i) (placed-is h e es (more f o) k) n) in
         let s = mem-keep (newly h e es (more f o)) (waiters es) (r .1) in

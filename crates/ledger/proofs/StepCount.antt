@@ -116,10 +116,11 @@ record Trying (h s : ℕ) : Type 0 where
   from : 3 ≤ s
   to : s ≤ 2 + 8 * h
 
-pub data After (h s : ℕ) (t : ℕ) : Type 0 where
-  again : t ≡ s + 1 → (s - 3) % 8 ≡ 3 → After h s t
-  up : t ≡ 3 + 8 * ((s - 3) / 8 + 1) → ((s - 3) % 8 ≡ 3) ⊎ ((s - 3) % 8 ≡ 7) → After h s t
-  done : t ≡ 0 → (s - 3) / 8 + 1 ≡ h → ((s - 3) % 8 ≡ 3) ⊎ ((s - 3) % 8 ≡ 7) → After h s t
+-- after an SC that succeeded or not: on to the second attempt, to the next node, or to the end
+pub data After (h s : ℕ) (ok : Bool) (t : ℕ) : Type 0 where
+  again : t ≡ s + 1 → (s - 3) % 8 ≡ 3 → ok ≡ false → After h s ok t
+  up : t ≡ 3 + 8 * ((s - 3) / 8 + 1) → ((s - 3) % 8 ≡ 3) ⊎ ((s - 3) % 8 ≡ 7) → (ok ≡ true) ⊎ ((s - 3) % 8 ≡ 7) → After h s ok t
+  done : t ≡ 0 → (s - 3) / 8 + 1 ≡ h → ((s - 3) % 8 ≡ 3) ⊎ ((s - 3) % 8 ≡ 7) → (ok ≡ true) ⊎ ((s - 3) % 8 ≡ 7) → After h s ok t
 
 five : (x : ℕ) → passesBy first x true ≡ 5
 unfolding passesBy attempt
@@ -134,36 +135,36 @@ unfolding passesBy
 one-second x ok = refl
 
 -- a step number within the list, or the end
-bounded : (h s k : ℕ) → Trying h s → ((s - 3) % 8 ≡ 3) ⊎ ((s - 3) % 8 ≡ 7) → s + k ≡ 3 + 8 * ((s - 3) / 8 + 1) → After h s (within (s + k) (2 + 8 * h))
+bounded : (h s k : ℕ) (ok : Bool) → Trying h s → ((s - 3) % 8 ≡ 3) ⊎ ((s - 3) % 8 ≡ 7) → (ok ≡ true) ⊎ ((s - 3) % 8 ≡ 7) → s + k ≡ 3 + 8 * ((s - 3) / 8 + 1) → After h s ok (within (s + k) (2 + 8 * h))
 unfolding within
-bounded h s k c last e = go (ltb (2 + 8 * h) (s + k)) refl
+bounded h s k ok c last why e = go (ltb (2 + 8 * h) (s + k)) refl
   where
-    go : (t : Bool) → ltb (2 + 8 * h) (s + k) ≡ t → After h s (cond t 0 (s + k))
-    go true d = done refl (let b = ltb-true (2 + 8 * h) (s + k) d in omega (arith, c .from, c .to)) last
-    go false d = up e last
+    go : (t : Bool) → ltb (2 + 8 * h) (s + k) ≡ t → After h s ok (cond t 0 (s + k))
+    go true d = done refl (let b = ltb-true (2 + 8 * h) (s + k) d in omega (arith, c .from, c .to)) last why
+    go false d = up e last why
 
-stays : (h s : ℕ) → Trying h s → (s - 3) % 8 ≡ 3 → After h s (within (s + 1) (2 + 8 * h))
+stays : (h s : ℕ) → Trying h s → (s - 3) % 8 ≡ 3 → After h s false (within (s + 1) (2 + 8 * h))
 unfolding within
 stays h s c i = go (ltb (2 + 8 * h) (s + 1)) refl
   where
-    go : (t : Bool) → ltb (2 + 8 * h) (s + 1) ≡ t → After h s (cond t 0 (s + 1))
+    go : (t : Bool) → ltb (2 + 8 * h) (s + 1) ≡ t → After h s false (cond t 0 (s + 1))
     go true d = absurd (let b = ltb-true (2 + 8 * h) (s + 1) d in omega (arith, c .from, c .to))
-    go false d = again refl i
+    go false d = again refl i refl
 
-after-sc : (h s x : ℕ) (ok : Bool) → Trying h s → (s - 3) % 4 ≡ 3 → After h s (within (s + passesBy (attemptOf s) x ok) (2 + 8 * h))
+after-sc : (h s x : ℕ) (ok : Bool) → Trying h s → (s - 3) % 4 ≡ 3 → After h s ok (within (s + passesBy (attemptOf s) x ok) (2 + 8 * h))
 unfolding attemptOf
 after-sc h s x ok c w = go (ltb ((s - 3) % 8) 4) refl ok
   where
-    go : (t : Bool) → ltb ((s - 3) % 8) 4 ≡ t → (ok : Bool) → After h s (within (s + passesBy (cond t first second) x ok) (2 + 8 * h))
+    go : (t : Bool) → ltb ((s - 3) % 8) 4 ≡ t → (ok : Bool) → After h s ok (within (s + passesBy (cond t first second) x ok) (2 + 8 * h))
     go true d true =
         let b = ltb-true ((s - 3) % 8) 4 d in
         let i : (s - 3) % 8 ≡ 3 = omega arith in
-        rw (five x) (bounded h s 5 c (inl i) (omega (arith, c .from)))
+        rw (five x) (bounded h s 5 true c (inl i) (inl refl) (omega (arith, c .from)))
     go true d false = let b = ltb-true ((s - 3) % 8) 4 d in rw (one-failed x) (stays h s c (omega arith))
     go false d ok =
         let b = ltb-false ((s - 3) % 8) 4 d in
         let i : (s - 3) % 8 ≡ 7 = omega arith in
-        rw (one-second x ok) (bounded h s 1 c (inr i) (omega (arith, c .from)))
+        rw (one-second x ok) (bounded h s 1 ok c (inr i) (inr i) (omega (arith, c .from)))
 
 -- the same at an equal step number and number of second attempts
 at-step : {s t n d e : ℕ} (f : ℕ) → t ≡ s → d ≡ e → Going s n (f + e) → Going t n (f + d)
@@ -183,12 +184,25 @@ one-small : (t : Bool) → oneIf t ≤ 1
 one-small true = omega arith
 one-small false = omega arith
 
+-- the step number after an SC at x
+pub sc-leads : (h p : ℕ) (st : State) → Stepping h p st → (x : ℕ) → accessBy h p st ≡ stores (attemptOf (st .process p .step)) x → st .process p .adds ≡ true
+    → CanTry h p (st .process p .step) → (st .process p .step - 3) % 4 ≡ 3 → After h (st .process p .step) (succeeds p (cellAt (st .memory) x)) (recordAfter h p st .step)
+unfolding effect
+sc-leads h p st s x eq d t w =
+    subst (After h (st .process p .step) (succeeds p (cellAt (st .memory) x))) (sym now)
+    (after-sc h (st .process p .step) x (succeeds p (cellAt (st .memory) x)) (record { from = t .from; to = t .to }) w)
+  where
+    now : recordAfter h p st .step ≡ within (st .process p .step + passesBy (attemptOf (st .process p .step)) x (succeeds p (cellAt (st .memory) x))) (2 + 8 * h)
+    now =
+        step-is h p (st .process p) (st .memory) (s .good .low) (accessBy h p st)
+        ∙ ap₂ (λ (a : Access) (n : ℕ). within (st .process p .step + effect p (st .process p) (st .memory) a .passes) n) eq (last-addition h (st .process p .adds) d)
+
 -- the same where an SC leads
-sc-ends : (h s t n f : ℕ) → 3 ≤ s → After h s t → Going s n f → (1 ≤ t → Going t (suc n) f) × (t ≡ 0 → Gone h (suc n) f)
-sc-ends h s t n f from (again e i) g =
+sc-ends : (h s t n f : ℕ) (ok : Bool) → 3 ≤ s → After h s ok t → Going s n f → (1 ≤ t → Going t (suc n) f) × (t ≡ 0 → Gone h (suc n) f)
+sc-ends h s t n f ok from (again e i k) g =
     (λ b. subst₂ (λ (x y : ℕ). Going x (suc n) y) (sym e) (omega arith) (going-on s n f 0 from (λ y q. omega arith) (λ y. absurd (omega arith)) (omega arith) (omega arith) g), λ y. absurd (omega arith))
-sc-ends h s t n f from (up e i) g = (λ b. going-up s t n f from i e g, λ y. absurd (omega arith))
-sc-ends h s t n f from (done e top i) g = (λ b. absurd (omega arith), λ y. going-ends h s n f from i top g)
+sc-ends h s t n f ok from (up e i k) g = (λ b. going-up s t n f from i e g, λ y. absurd (omega arith))
+sc-ends h s t n f ok from (done e top i k) g = (λ b. absurd (omega arith), λ y. going-ends h s n f from i top g)
 
 -- ---- the steps of every row
 
@@ -202,7 +216,7 @@ pub record StepCount (h : ℕ) (st : State) : Type 0 where
   pub few : (i : ℕ) → st .row i .steps ≤ 2 + 8 * h
   pub short : (i : ℕ) → st .row i .finished ≡ false → st .row i .steps < 2 + 8 * h
 
-kind-two : (t : Bool) → kindOf t ≡ 2 → t ≡ false
+pub kind-two : (t : Bool) → kindOf t ≡ 2 → t ≡ false
 unfolding kindOf
 kind-two true e = absurd (omega arith)
 kind-two false e = refl
@@ -211,7 +225,7 @@ pub not-done : (s : ℕ) → eqb s 0 ≡ false → 1 ≤ s
 not-done zero e = absurd (false-true (sym e))
 not-done (suc s) e = omega arith
 
-kind-three : (t : Bool) → kindOf t ≡ 3 → t ≡ true
+pub kind-three : (t : Bool) → kindOf t ≡ 3 → t ≡ true
 unfolding kindOf
 kind-three true e = refl
 kind-three false e = absurd (omega arith)
@@ -219,14 +233,6 @@ kind-three false e = absurd (omega arith)
 module _ (h p : ℕ) (st : State) (s : Stepping h p st) (c : StepCount h st) where
   abbrev w : Row
   w = st .row (st .process p .operation)
-
-  -- the step number after an SC
-  step-now : {x : ℕ} → accessBy h p st ≡ stores (attemptOf (st .process p .step)) x → st .process p .adds ≡ true
-      → recordAfter h p st .step ≡ within (st .process p .step + passesBy (attemptOf (st .process p .step)) x (succeeds p (cellAt (st .memory) x))) (2 + 8 * h)
-  unfolding effect
-  step-now {x} eq d =
-      step-is h p (st .process p) (st .memory) (s .good .low) (accessBy h p st)
-      ∙ ap₂ (λ (a : Access) (n : ℕ). within (st .process p .step + effect p (st .process p) (st .memory) a .passes) n) eq (last-addition h (st .process p .adds) d)
 
   -- the acting addition: at its next step, or finished
   addition : {a : Access} → Turn h p (st .process p) a → Next (st .process p) (recordAfter h p st .step) a → accessBy h p st ≡ a → st .process p .adds ≡ true
@@ -257,8 +263,7 @@ module _ (h p : ℕ) (st : State) (s : Stepping h p st) (c : StepCount h st) whe
     λ y. absurd (omega arith),
   )
   addition (store e t x) (after-store z) eq d =
-      let a = after-sc h (st .process p .step) (nodeAt h p (st .process p .step)) (succeeds p (cellAt (st .memory) (nodeAt h p (st .process p .step)))) (record { from = t .from; to = t .to }) x in
-      let r = sc-ends h (st .process p .step) (recordAfter h p st .step) (w .steps) (w .seconds) (t .from) (subst (After h (st .process p .step)) (sym (step-now eq d)) a) (c .adding p (s .acts) d) in
+      let r = sc-ends h (st .process p .step) (recordAfter h p st .step) (w .steps) (w .seconds) _ (t .from) (sc-leads h p st s (nodeAt h p (st .process p .step)) eq d t x) (c .adding p (s .acts) d) in
       let none = ap oneIf (ap isSecondLink eq) in
       (λ b. subst (λ (y : ℕ). Going (recordAfter h p st .step) (suc (w .steps)) y) (sym (more none)) (r .0 b), λ b. subst (λ (y : ℕ). Gone h (suc (w .steps)) y) (sym (more none)) (r .1 b))
     where

@@ -21,10 +21,10 @@ use Rattle.counts.specs.Counts.{Counts, countsAfter}
 use Rattle.listing.specs.Queue.{isCounted}
 use Rattle.listing.proofs.Laws.{length-keep}
 use Rattle.ledger.specs.Kept.{Kept, atRoot, secondLink, queueThen, listThen, waitThen, rowThen, readStep, additionStep, keptStep, keptStart}
-use Rattle.ledger.proofs.Turns.{Turn, root, leaf, write, link, leftward, rightward, store}
+use Rattle.ledger.proofs.Turns.{Turn, root, leaf, write, link, leftward, rightward, store, reads-the-root, reads-no-root}
 use Rattle.ledger.proofs.Did.{did, did-other, did-not}
 use Rattle.ledger.proofs.Good.{Good, Stepping, accessBy, effectBy, recordAfter, entryBy, turns, false-true}
-use Rattle.ledger.proofs.Keeps.{Keeps, write-case, reads-the-root, reads-no-root}
+use Rattle.ledger.proofs.Keeps.{Keeps, write-case}
 
 -- a leaf write or a root read
 abbrev pub acts : Access → Bool
@@ -155,10 +155,10 @@ module _ (h p : ℕ) (st : State) (s : Stepping h p st) (k : Kept) (K : Keeps h 
           ≡ size k + cond (acts (accessBy h p st)) 1 0
       go true d =
           addition-size h p (st .process p) (recordAfter h p st) (effectBy h p st .stored) k
-          ∙ ap (λ (b : Bool). size k + cond b 1 0) (write-case h p st s k K (turns h p st s) d ∙ sym (or-none _ _ (reads-no-root h p st s k K (turns h p st s) d)))
+          ∙ ap (λ (b : Bool). size k + cond b 1 0) (write-case h p st s k K (turns h p st s) d ∙ sym (or-none _ _ (reads-no-root (turns h p st s) d)))
       go false d =
           read-size h p (st .process p) (recordAfter h p st) (effectBy h p st .stored) k
-          ∙ ap (λ (b : Bool). size k + cond b 1 0) (sym (ap acts (reads-the-root h p st s k K (turns h p st s) d) ∙ root-acts))
+          ∙ ap (λ (b : Bool). size k + cond b 1 0) (sym (ap acts (reads-the-root (turns h p st s) d) ∙ root-acts))
 
   acted-step : countBelow (st .operations) (λ i. did acts i (entryBy h p st ∷ st .history)) ≡ countBelow (st .operations) (λ i. did acts i (st .history)) + cond (acts (accessBy h p st)) 1 0
   acted-step = go (acts (accessBy h p st)) refl

@@ -11,7 +11,7 @@ use lib.Pow.{pow-mono}
 use borrow.Author.Tests.{ltb-true, ltb-false}
 use Rattle.cell.specs.Cell.{succeeds}
 use Rattle.meaning.specs.Tree.{processes, leafOf, left, right, ancestor}
-use Rattle.meaning.specs.Access.{Access, starts, readsRoot, readsLeaf, writesLeaf, links, readsLeft, readsRight, stores, Attempt, first, second, attempt}
+use Rattle.meaning.specs.Access.{Access, starts, readsRoot, readsLeaf, writesLeaf, links, readsLeft, readsRight, stores, Attempt, first, second, attempt, isRootRead}
 use Rattle.meaning.specs.Steps.{cellAt, Memory, Process, Effect, effect, onward, passesBy, sawIt, sawLeft, sawRight, atStep, within, accessOf, nextRecord, stepsOf}
 use Rattle.machine.specs.Does.{attemptOf}
 use Rattle.machine.specs.Nexts.{lastStep, CanTry, NodeOf}
@@ -30,6 +30,9 @@ pub record CanTurn (h p : ℕ) (r : Process) : Type 0 where
 abbrev pub nodeAt : ℕ → ℕ → ℕ → ℕ
 nodeAt h p s = ancestor (suc ((s - 3) / 8)) (leafOf h p)
 
+not-both : {b : Bool} → b ≡ true → b ≡ false → ⊥
+not-both e d = let n : true ≡ false = sym e ∙ d in let z : _≡_ {A = ℕ} 0 1 = cc in omega arith
+
 pub data Turn (h p : ℕ) (r : Process) : Access → Type 0 where
   root : r .adds ≡ false → r .step ≡ 1 → Turn h p r readsRoot
   leaf : r .adds ≡ true → r .step ≡ 1 → Turn h p r (readsLeaf (leafOf h p))
@@ -38,6 +41,34 @@ pub data Turn (h p : ℕ) (r : Process) : Access → Type 0 where
   leftward : r .adds ≡ true → CanTry h p (r .step) → (r .step - 3) % 4 ≡ 1 → Turn h p r (readsLeft (nodeAt h p (r .step)))
   rightward : r .adds ≡ true → CanTry h p (r .step) → (r .step - 3) % 4 ≡ 2 → Turn h p r (readsRight (nodeAt h p (r .step)))
   store : r .adds ≡ true → CanTry h p (r .step) → (r .step - 3) % 4 ≡ 3 → Turn h p r (stores (attemptOf (r .step)) (nodeAt h p (r .step)))
+
+module _ {h p : ℕ} {r : Process} where
+  -- a read reads the root, an addition does not, and nobody else does
+  pub reads-the-root : {a : Access} → Turn h p r a → r .adds ≡ false → a ≡ readsRoot
+  reads-the-root (root e w) d = refl
+  reads-the-root (leaf e w) d = absurd (not-both e d)
+  reads-the-root (write e w) d = absurd (not-both e d)
+  reads-the-root (link e c w) d = absurd (not-both e d)
+  reads-the-root (leftward e c w) d = absurd (not-both e d)
+  reads-the-root (rightward e c w) d = absurd (not-both e d)
+  reads-the-root (store e c w) d = absurd (not-both e d)
+
+  pub reads-no-root : {a : Access} → Turn h p r a → r .adds ≡ true → isRootRead a ≡ false
+  unfolding isRootRead
+  reads-no-root (root e w) d = absurd (not-both d e)
+  reads-no-root (leaf e w) d = refl
+  reads-no-root (write e w) d = refl
+  reads-no-root (link e c w) d = refl
+  reads-no-root (leftward e c w) d = refl
+  reads-no-root (rightward e c w) d = refl
+  reads-no-root (store e c w) d = refl
+
+  pub root-read-adds-not : {a : Access} → Turn h p r a → isRootRead a ≡ true → r .adds ≡ false
+  root-read-adds-not t k = go (r .adds) refl
+    where
+      go : (b : Bool) → r .adds ≡ b → b ≡ false
+      go true e = absurd (not-both k (reads-no-root t e))
+      go false e = refl
 
 -- a step number is 1, 2 or of an attempt, and there one of four
 one-two-more : (n : ℕ) → 1 ≤ n → (n ≡ 1) ⊎ ((n ≡ 2) ⊎ (3 ≤ n))

@@ -42,10 +42,10 @@ module _ (h k l : ℕ) (e : h ≡ k + l) where
   pub node-is : (q : ℕ) → ancestor l (leafOf h q) ≡ q / 2 ^ l + 2 ^ k
   node-is q = rw e (levelled k l q)
 
-  node-low : (q : ℕ) → 2 ^ k ≤ ancestor l (leafOf h q)
+  pub node-low : (q : ℕ) → 2 ^ k ≤ ancestor l (leafOf h q)
   node-low q = omega (arith, node-is q)
 
-  node-high : (q : ℕ) → q < 2 ^ h → ancestor l (leafOf h q) < 2 ^ suc k
+  pub node-high : (q : ℕ) → q < 2 ^ h → ancestor l (leafOf h q) < 2 ^ suc k
   node-high q b = omega (arith, node-is q, pow-suc 2 k, shr-lt {n = q} k l (subst (λ (x : ℕ). q < 2 ^ x) e b))
 
 -- nodes of two levels are never one

@@ -9,3 +9,4 @@ pub mod TakenIn
 pub mod Report
 pub mod Printed
 pub mod Starred
+pub mod Plain

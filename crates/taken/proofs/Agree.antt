@@ -34,7 +34,7 @@ pub before-trans : {a b c : List Entry} → Before a b → Before b c → Before
 before-trans f same = f
 before-trans f (later g) = later (before-trans f g)
 
-before-tail : {e : Entry} {a b : List Entry} → Before (e ∷ a) b → Before a b
+pub before-tail : {e : Entry} {a b : List Entry} → Before (e ∷ a) b → Before a b
 before-tail f = before-trans (later same) f
 
 pub before-read : (p y : ℕ) (es : List Entry) → Before (beforeRead p y es) es
@@ -78,7 +78,7 @@ unfolding inLeaf
 written {i} (here {e} {es} w o q t) = rw (w, eq-eqb i (e .operation) (sym o)) (or-all (inLeaf i es))
 written (there w) = or-true _ _ (written w)
 
-turn-below : {i p k : ℕ} {es : List Entry} → Writes i p k es → k < writesBy p es
+pub turn-below : {i p k : ℕ} {es : List Entry} → Writes i p k es → k < writesBy p es
 unfolding writesBy
 turn-below {p} (here {e} {es} w o q t) = rw (w, eq-eqb p (e .process) (sym q)) (omega arith)
 turn-below (there w) = omega (arith, turn-below w)

@@ -1,0 +1,10 @@
+pub mod Overs
+pub mod Sums
+pub mod TreeLaws
+pub mod Values
+pub mod Viewed
+pub mod Tied
+pub mod ArrayRun
+pub mod Number
+pub mod Lists
+pub mod Told

@@ -1,0 +1,2 @@
+pub mod SumTree
+pub mod View

@@ -1,0 +1,1 @@
+// The counter as an instance of the Tree Algorithm, with no code.

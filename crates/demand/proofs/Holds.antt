@@ -1,0 +1,62 @@
+-- Demand 3 holds after every accepted recording, of every height.
+use Prim.Native.Nat.{ℕ, zero, suc, _+_, _*_, _^_, _≤_, _<_}
+use native.Mathlib.Omega.{arith}
+use mathlib.Core.Path.{_≡_, refl, sym, ap, _∙_, subst}
+use mathlib.Core.Logic.{_⊎_, inl, inr, ⊎-elim}
+use mathlib.Core.Bool.{Bool, true, false}
+use mathlib.Core.List.{List, List·Memᴰ}
+use Rattle.meaning.specs.Layout.{height}
+use Rattle.meaning.specs.Run.{State, initial, start, takeStep, Outcome, accepted, outcome}
+use Rattle.meaning.specs.TakenIn.{listed, positionOf, rank}
+use Rattle.ledger.proofs.Good.{Good, Stepping, false-true}
+use Rattle.ledger.proofs.Kept.{found}
+use Rattle.ledger.proofs.StepCount.{StepCount, count-step, count-start, count-initial}
+use Rattle.counter.proofs.Tied.{Tied, tied-step, tied-start, tied-initial}
+use Rattle.counter.proofs.Told.{Told, told-step, told-start, told-initial, root-value}
+use Rattle.counter.proofs.Lists.{times-some, times-not, times-once}
+use Rattle.engine.proofs.Accepted.{accepted-keeps, accepted-alone}
+use Rattle.demand.specs.Demand3.{Demand3}
+
+-- what is carried through the records
+record Carried (h : ℕ) (st : State) : Type 0 where
+  counted : StepCount h st
+  tied : Tied h st
+  told : Told h st
+
+carried-step : (h p : ℕ) (st : State) → Stepping h p st → Carried h st → Carried h (takeStep h p st)
+carried-step h p st s c =
+    let t = tied-step h p st s (c .tied) in
+    record { counted = count-step h p st s (c .counted); tied = t; told = told-step h p st s (c .counted) (c .tied) t (c .told) }
+
+carried-start : (h p : ℕ) (adds : Bool) (delta : ℕ) (st : State) → Good h st → p < 2 ^ h → st .process p .step ≡ 0 → st .operations < 1024 → Carried h st → Carried h (start h p adds delta st)
+carried-start h p adds delta st g b f o c =
+    record {
+      counted = count-start h p adds delta st g b f o (c .counted);
+      tied = tied-start h p adds delta st g b f o (c .tied);
+      told = told-start h p adds delta st g b f o (c .told);
+    }
+
+pub demand-3 : (s : List ℕ) (st : State) → outcome s ≡ accepted st → Demand3 (height s) st
+unfolding rank
+demand-3 s st e =
+    record {
+      answers = λ i k f. c .told .answers i f k;
+      counter = c .told .counter ∙ sym (root-value (height s) st (g .0) (c .tied));
+      finished = λ i f. times-some i (listed (height s) (st .history)) (c .told .apart) (c .told .finished i f);
+      unfinished = λ i f. times-once i (listed (height s) (st .history)) (c .told .apart);
+      reads = λ i k f. times-not i (listed (height s) (st .history)) (λ m. false-true (sym f ∙ c .told .reads i m k));
+      strangers = λ i b. times-not i (listed (height s) (st .history)) (λ m. omega (arith, c .told .known i m));
+      order = λ i j f b l. c .told .order i j f b (⊎-elim (λ z. absurd (omega arith)) (λ m. m) (found j (listed (height s) (st .history))));
+      read-steps = c .counted .read;
+      addition-steps = c .counted .added;
+      bound = c .counted .short;
+      idles = λ p. accepted-alone s st e p (2 + 8 * height s) (λ b. omega arith) .0;
+    }
+  where
+    g : Good (height s) st × Carried (height s) st
+    g =
+        accepted-keeps Carried (λ h. record { counted = count-initial h; tied = tied-initial h; told = told-initial h }) (λ h p x y z. carried-step h p x y z)
+        (λ h p a d x y b f o z. carried-start h p a d x y b f o z) s st e
+
+    c : Carried (height s) st
+    c = g .1

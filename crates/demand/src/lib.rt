@@ -1,0 +1,1 @@
+// Demand 3 for every accepted recording, with no code.

@@ -1,0 +1,5 @@
+pub mod Invariant
+pub mod Others
+pub mod Stands
+pub mod Moves
+pub mod Theorem

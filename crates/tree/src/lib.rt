@@ -1,0 +1,1 @@
+// The Tree Algorithm in the paper's generality, with no code.
