@@ -1,0 +1,89 @@
+-- Turns in a row hand out the records of the definition: those that `recordsOf` lists, and no others.
+use Prim.Native.Nat.{ℕ, zero, suc, _+_, _≤_}
+use mathlib.Core.Path.{_≡_, refl, sym, ap, subst, _∙_}
+use mathlib.Core.List.{List}
+use native.Mathlib.Omega.{arith}
+use lib.ListN.{length}
+use denote.Ref.{now}
+use Rattle.recording.specs.Record.{bytesOf, cutAt}
+use Rattle.recording.specs.declared.Event.{Event}
+use Rattle.recording.specs.declared.Event.the-variants.{Step, Read, Add}
+use Rattle.recording.specs.declared.Cut.{Cut}
+use Rattle.recording.specs.declared.Cut.the-variants.{Found, Broken, End}
+use Rattle.meaning.specs.Layout.{Records, event, follow, recordsFrom, recordsOf}
+use Rattle.reader.specs.Reads.{Reads, placeAfter, readingAt}
+use Rattle.reader.specs.InARow.{HandsOut, ends, refuses, hands}
+use Rattle.reader.specs.declared.Reader.{Reader}
+use Rattle.reader.proofs.Laws.{beyond-ends, event-moves, reads-on}
+
+-- every event has a byte at least
+bytes-some : (e : Event) → 1 ≤ length (bytesOf e)
+unfolding bytesOf
+bytes-some (Step p) = omega arith
+bytes-some (Read p) = omega arith
+bytes-some (Add p d) = omega arith
+
+-- one record of the definition, by what a turn hands out
+followed : {r r′ : Reader} {c : Cut} → Reads r r′ c → (most : ℕ)
+    → recordsFrom (suc most) (now (r .rec)) (r .place) ≡ follow (r .place) c (recordsFrom most (now (r .rec)))
+unfolding recordsFrom
+followed {r} p most = ap (λ (c : Cut). follow (r .place) c (recordsFrom most (now (r .rec)))) (sym (p .hands))
+
+module _ {r r′ : Reader} {e : Event} {next : ℕ} (p : Reads r r′ (Found e next)) where
+  -- the definition goes on where the reader now stands
+  goes-on : (most : ℕ) → recordsFrom most (now (r′ .rec)) (r′ .place) ≡ recordsFrom most (now (r .rec)) next
+  goes-on most =
+      ap (λ (s : List ℕ). recordsFrom most s (r′ .place)) (ap now (p .keeps)) ∙ ap (recordsFrom most (now (r .rec))) (event-moves p .0)
+
+  -- with one record less to come
+  fewer : (most : ℕ) → length (now (r .rec)) ≤ r .place + suc most → length (now (r′ .rec)) ≤ r′ .place + most
+  fewer most enough = omega (arith, ap (λ x. length (now x)) (p .keeps), bytes-some e, event-moves p .0, event-moves p .1)
+
+pub hands-from : {r : Reader} {rs : Records} → HandsOut r rs → (most : ℕ) → length (now (r .rec)) ≤ r .place + most
+    → rs ≡ recordsFrom most (now (r .rec)) (r .place)
+unfolding recordsFrom follow
+hands-from (ends p) zero enough = refl
+hands-from (refuses p) zero enough =
+    let e = beyond-ends p (omega arith) .0 in let z : _≡_ {A = ℕ} 0 1 = cc in absurd (omega arith)
+hands-from (hands p rest) zero enough =
+    let e = beyond-ends p (omega arith) .0 in let z : _≡_ {A = ℕ} 0 1 = cc in absurd (omega arith)
+hands-from (ends p) (suc most) enough = sym (followed p most)
+hands-from (refuses p) (suc most) enough = sym (followed p most)
+hands-from {r} (hands {e = e} p rest) (suc most) enough =
+    ap (event (r .place) e) (hands-from rest most (fewer p most enough) ∙ goes-on p most) ∙ sym (followed p most)
+
+-- whatever is handed out from byte 6 on is what the definition lists
+pub hands-all : {r : Reader} {rs : Records} → HandsOut r rs → r .place ≡ 6 → rs ≡ recordsOf (now (r .rec))
+unfolding recordsOf
+hands-all {r} h six =
+    hands-from h (length (now (r .rec))) (omega arith) ∙ ap (recordsFrom (length (now (r .rec))) (now (r .rec))) six
+
+-- ---- and all of it is handed out
+
+-- every reader has a turn
+abbrev moved : Reader → Reader
+moved r = record { rec = r .rec; place = placeAfter (r .place) (cutAt (now (r .rec)) (r .place)) }
+
+turn : (r : Reader) → Reads r (moved r) (cutAt (now (r .rec)) (r .place))
+unfolding readingAt
+turn r = reads-on r (readingAt (now (r .rec)) (r .place)) refl
+
+hands-on : {r r′ : Reader} {c : Cut} → Reads r r′ c → (most : ℕ)
+    → ((e : Event) (next : ℕ) → Reads r r′ (Found e next) → HandsOut r′ (recordsFrom most (now (r .rec)) next))
+    → HandsOut r (follow (r .place) c (recordsFrom most (now (r .rec))))
+unfolding follow
+hands-on {c = Found e next} p most rest = hands p (rest e next p)
+hands-on {c = Broken offset} p most rest = refuses p
+hands-on {c = End} p most rest = ends p
+
+hands-enough : (most : ℕ) (r : Reader) → length (now (r .rec)) ≤ r .place + most → HandsOut r (recordsFrom most (now (r .rec)) (r .place))
+unfolding recordsFrom
+hands-enough zero r enough = ends (rw (beyond-ends (turn r) (omega arith) .0) at (turn r))
+hands-enough (suc most) r enough =
+    rw (followed (turn r) most) (hands-on (turn r) most (λ e next p. rw (goes-on p most) at (hands-enough most (moved r) (fewer p most enough))))
+
+pub hands-some : (r : Reader) → r .place ≡ 6 → HandsOut r (recordsOf (now (r .rec)))
+unfolding recordsOf
+hands-some r six =
+    let s = now (r .rec) in
+    subst (λ (at : ℕ). HandsOut r (recordsFrom (length s) s at)) six (hands-enough (length s) r (omega arith))

@@ -1,0 +1,34 @@
+-- `reading_at` meets its contract: each arm, at the answer that the pattern took apart.
+use mathlib.Core.Path.{refl, sym, ap}
+use borrow.Author.Needs.{needs}
+use Rattle.reader.specs.Reads.{placeAfter}
+use Rattle.reader.proofs.Laws.{reading-is}
+use Rattle.reader.proofs.reading_at.Statement.{statement}
+use Rattle.reader.proofs.reading_at.Tie as tie
+
+cut-at-requires : tie.Need-cut-at-requires
+cut-at-requires c κs = search needs
+
+enum-known-cut : tie.Need-enum-known-cut
+enum-known-cut c = search needs
+
+enum-told : tie.Need-enum-told
+enum-told c = search needs
+
+enum-told-2 : tie.Need-enum-told-2
+enum-told-2 c = search needs
+
+returns : tie.Need-returns
+unfolding placeAfter
+returns c = reading-is _ (rw (c .before .cut .given .1) at (c .before .before .before .cut-at .ensures)) refl
+
+returns-2 : tie.Need-returns-2
+unfolding placeAfter
+returns-2 c = reading-is _ (c .before .before .cut-at .ensures) (sym (ap (placeAfter _) (c .enum-told .given .1)))
+
+returns-3 : tie.Need-returns-3
+unfolding placeAfter
+returns-3 c = reading-is _ (c .before .before .cut-at .ensures) (sym (ap (placeAfter _) (c .enum-told2 .given .1)))
+
+pub reading-at-spec : {M : Type 1} → statement M
+reading-at-spec = tie.close (tie.spec cut-at-requires enum-known-cut enum-told enum-told-2 returns returns-2 returns-3)
