@@ -16,7 +16,7 @@ done < <(awk -F'|' '/^## From a rule/ { on = 1 } /^## What a later/ { on = 0 } o
   rest = $3; module = ""
   while (match(rest, /`[^`]+`/)) {
     word = substr(rest, RSTART + 1, RLENGTH - 2); rest = substr(rest, RSTART + RLENGTH)
-    if (word ~ /^[a-z_]+\/[A-Z][A-Za-z]*$/) { module = word; print module "\t" }
+    if (word ~ /^[a-z_]+\/[A-Z][A-Za-z0-9]*$/) { module = word; print module "\t" }
     else if (word !~ /^crates\// && module != "" && word != "starred") print module "\t" word
   } }' docs/ARCHITECTURE.md)
 while IFS= read -r name; do
