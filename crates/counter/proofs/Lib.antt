@@ -4,7 +4,6 @@ pub mod TreeLaws
 pub mod Values
 pub mod Viewed
 pub mod Tied
-pub mod ArrayRun
 pub mod Number
 pub mod Lists
 pub mod Told

@@ -2,26 +2,29 @@
 -- to the sum at the new ones.
 use Prim.Native.Nat.{ℕ, zero, suc, _+_, _%_, _^_, _≤_, _<_}
 use native.Mathlib.Omega.{arith}
-use mathlib.Core.Path.{_≡_, refl, sym, ap, ap₂, _∙_, subst}
+use mathlib.Core.Path.{_≡_, refl, sym, ap, ap₂, _∙_, subst, subst⁻¹}
 use mathlib.Core.Bool.{Bool, true, false, not, cond, _&&_}
-use mathlib.Core.List.{List, [], _∷_, _++_, List·Memᴰ, List·Memᴰ·head, List·Memᴰ·tail}
-use lib.Dec.{eqb}
+use mathlib.Core.List.{List, [], _∷_, _++_, append-nil, List·Memᴰ, List·Memᴰ·head, List·Memᴰ·tail}
+use lib.Dec.{ltb, eqb}
 use borrow.Author.Tests.{eq-eqb, ne-eqb}
-use Rattle.arrays.proofs.Laws.{upd-same, upd-other}
 use Rattle.meaning.specs.Access.{isLeafWrite}
-use Rattle.meaning.specs.Steps.{upd, plus}
+use Rattle.meaning.specs.Steps.{plus}
 use Rattle.meaning.specs.Run.{Entry, Row}
 use Rattle.meaning.specs.TakenIn.{keep}
 use Rattle.meaning.specs.Plain.{numberAfter, runDown, upTo}
-use Rattle.taken.specs.CountIn.{writesBy, Waiter, waiters}
-use Rattle.taken.proofs.Agree.{Before, same, later, by-before}
+use Rattle.taken.specs.CountIn.{writesBy, Waiter, waiterOf, waiters}
+use Rattle.taken.proofs.Agree.{Writes, here, there, turn-below}
 use Rattle.listing.specs.Queue.{isCounted, operationsOf}
+use Rattle.listing.proofs.Laws.{keep-append}
 use Rattle.ledger.proofs.Kept.{mem-keep}
+use Rattle.ledger.proofs.Waiters.{waiters-write, waiters-still, waiter-writes}
+use Rattle.tree.specs.Log.{writesTo, newlyIn, Lists, none, passes, takes, applied}
+use Rattle.tree.proofs.Moves.{by-number}
+use Rattle.tree.proofs.Linear.{writes-same, writes-other, array-run}
 use Rattle.counter.specs.SumTree.{sumBelow}
 use Rattle.counter.specs.View.{valueAfter}
 use Rattle.counter.proofs.Sums.{sum-plus}
-use Rattle.counter.proofs.Values.{writes-more, value-still, value-next}
-use Rattle.counter.proofs.ArrayRun.{applied, newlyIn, array-run}
+use Rattle.counter.proofs.Values.{value-still, value-next}
 
 pub run-append : (row : ℕ → Row) (v : ℕ) (l m : List ℕ) → runDown row v (l ++ m) ≡ runDown row (runDown row v l) m
 unfolding runDown
@@ -35,32 +38,74 @@ run-same f g v [] e = refl
 run-same f g v (i ∷ l) e =
     ap (λ (n : ℕ). runDown f n l) (ap₂ (λ (k d : ℕ). cond (eqb k 3) (plus v d) v) (e i (List·Memᴰ·head refl) .0) (e i (List·Memᴰ·head refl) .1)) ∙ run-same f g _ l (λ j m. e j (List·Memᴰ·tail m))
 
--- the k-th write, wherever it stands in the history
-value-turn : (f : ℕ → ℕ) {e : Entry} {old es : List Entry} → Before (e ∷ old) es → isLeafWrite (e .access) ≡ true
-    → valueAfter f (e .process) (suc (writesBy (e .process) old)) es ≡ plus (valueAfter f (e .process) (writesBy (e .process) old) es) (f (e .operation))
-value-turn f {e} {old} same w =
-    value-next f (e .process) e old w refl ∙ ap (λ (n : ℕ). plus n (f (e .operation))) (sym (value-still f (e .process) (writesBy (e .process) old) e old (omega arith)))
-value-turn f {e} {old} (later {e = x} {es = es} b) w =
-    let c = by-before (e .process) b in
-    let d = writes-more (e .process) e old w refl in
-    value-still f (e .process) (suc (writesBy (e .process) old)) x es (omega (arith, c, d)) ∙ value-turn f b w
-    ∙ ap (λ (n : ℕ). plus n (f (e .operation))) (sym (value-still f (e .process) (writesBy (e .process) old) x es (omega (arith, c, d))))
+-- ---- the leaf writes as a log of the tree's components
+
+abbrev componentOf : Waiter → ℕ
+componentOf w = w .process
+
+abbrev turnOf : Waiter → ℕ
+turnOf w = w .turn
+
+log-writes : (q : ℕ) (es : List Entry) → writesTo componentOf turnOf q (waiters es) ≡ writesBy q es
+unfolding waiters writesTo writesBy waiterOf
+log-writes q [] = refl
+log-writes q (e ∷ es) = go (isLeafWrite (e .access)) refl (log-writes q es)
+  where
+    go : (t : Bool) → isLeafWrite (e .access) ≡ t → writesTo componentOf turnOf q (waiters es) ≡ writesBy q es
+        → writesTo componentOf turnOf q (waiters es ++ cond t (waiterOf e es ∷ []) []) ≡ writesBy q es + cond (t && eqb q (e .process)) 1 0
+    go true w ih = by-number q (e .process) (λ d. writes-same componentOf turnOf q (waiters es) (waiterOf e es) d ∙ ap suc ih ∙ more d) (λ n. writes-other componentOf turnOf q (waiters es) (waiterOf e es) n ∙ ih ∙ none n)
+      where
+        more : q ≡ e .process → suc (writesBy q es) ≡ writesBy q es + cond (eqb q (e .process)) 1 0
+        more d = rw (eq-eqb q (e .process) d) (omega arith)
+
+        none : (q ≡ e .process → ⊥) → writesBy q es ≡ writesBy q es + cond (eqb q (e .process)) 1 0
+        none n = rw (ne-eqb q (e .process) n) (omega arith)
+    go false w ih = ap (writesTo componentOf turnOf q) (append-nil (waiters es)) ∙ ih ∙ omega arith
+
+-- what a step lists of it
+log-lists : (before after : ℕ → ℕ) (es : List Entry) → Lists componentOf turnOf before after (waiters es) (keep (λ w. isCounted after w && not (isCounted before w)) (waiters es))
+unfolding waiters keep isCounted newlyIn waiterOf
+log-lists before after [] = none
+log-lists before after (e ∷ es) = go (isLeafWrite (e .access)) (log-lists before after es)
+  where
+    new : Waiter → Bool
+    new w = ltb (w .turn) (after (w .process)) && not (ltb (w .turn) (before (w .process)))
+
+    one : (t : Bool) → new (waiterOf e es) ≡ t → Lists componentOf turnOf before after (waiters es) (keep new (waiters es))
+        → Lists componentOf turnOf before after (waiters es ++ (waiterOf e es ∷ [])) (keep new (waiters es) ++ cond t (waiterOf e es ∷ []) [])
+    one true d r = takes (waiterOf e es) r (sym (log-writes (e .process) es)) d
+    one false d r = subst⁻¹ (Lists componentOf turnOf before after (waiters es ++ (waiterOf e es ∷ []))) (append-nil (keep new (waiters es))) (passes (waiterOf e es) r (sym (log-writes (e .process) es)) d)
+
+    go : (t : Bool) → Lists componentOf turnOf before after (waiters es) (keep new (waiters es))
+        → Lists componentOf turnOf before after (waiters es ++ cond t (waiterOf e es ∷ []) []) (keep new (waiters es ++ cond t (waiterOf e es ∷ []) []))
+    go true r = subst⁻¹ (Lists componentOf turnOf before after (waiters es ++ (waiterOf e es ∷ []))) (keep-append new (waiters es) (waiterOf e es ∷ [])) (one (new (waiterOf e es)) refl r)
+    go false r = subst⁻¹ (λ (l : List Waiter). Lists componentOf turnOf before after l (keep new l)) (append-nil (waiters es)) r
+
+-- a write is the update of the one before, wherever it stands in the history
+value-turn : (f : ℕ → ℕ) {i p k : ℕ} {es : List Entry} → Writes i p k es → valueAfter f p (suc k) es ≡ plus (valueAfter f p k es) (f i)
+value-turn f {i} {p} {k} (here {e} {es} w o q t) =
+    subst (λ (j : ℕ). valueAfter f p (suc j) (e ∷ es) ≡ plus (valueAfter f p j (e ∷ es)) (f i)) t
+    (value-next f p e es w q ∙ ap₂ plus (sym (value-still f p (writesBy p es) e es (omega arith))) (ap f o))
+value-turn f {i} {p} {k} (there {e} {es} w) =
+    let b = turn-below w in
+    value-still f p (suc k) e es (omega arith) ∙ value-turn f w ∙ ap (λ (n : ℕ). plus n (f i)) (sym (value-still f p k e es (omega arith)))
 
 module _ (n : ℕ) (row : ℕ → Row) where
-  abbrev adds : ℕ → ℕ → ℕ
-  adds i v = plus v (row i .delta)
+  abbrev adds : Waiter → ℕ → ℕ
+  adds w v = plus v (row (w .operation) .delta)
 
   -- the number is the sum of the array
   run-sum : (ws : List Waiter) (a : ℕ → ℕ) → ((w : Waiter) → List·Memᴰ w ws → (row (w .operation) .kind ≡ 3) × (w .process < n))
-      → runDown row (sumBelow n a % 2 ^ 32) (operationsOf ws) ≡ sumBelow n (applied adds ws a) % 2 ^ 32
+      → runDown row (sumBelow n a % 2 ^ 32) (operationsOf ws) ≡ sumBelow n (applied componentOf turnOf adds ws a) % 2 ^ 32
   unfolding runDown operationsOf applied numberAfter
   run-sum [] a each = refl
   run-sum (w ∷ ws) a each =
       let k = each w (List·Memᴰ·head refl) in
       ap (λ (v : ℕ). runDown row v (operationsOf ws))
       (ap (λ (t : Bool). cond t (plus (sumBelow n a % 2 ^ 32) (row (w .operation) .delta)) (sumBelow n a % 2 ^ 32)) (eq-eqb (row (w .operation) .kind) 3 (k .0))
-      ∙ sym (sum-plus n (w .process) (row (w .operation) .delta) a (upd a (w .process) (adds (w .operation) (a (w .process)))) (k .1) (upd-same a (w .process) _) (λ q b m. upd-other a (w .process) _ q m)))
-      ∙ run-sum ws (upd a (w .process) (adds (w .operation) (a (w .process)))) (λ v m. each v (List·Memᴰ·tail m))
+      ∙ sym (sum-plus n (w .process) (row (w .operation) .delta) a (λ c. cond (eqb c (w .process)) (adds w (a c)) (a c)) (k .1) (ap (λ (t : Bool). cond t (adds w (a (w .process))) (a (w .process))) (eq-eqb (w .process) (w .process) refl))
+      (λ q b m. ap (λ (t : Bool). cond t (adds w (a q)) (a q)) (ne-eqb q (w .process) m))))
+      ∙ run-sum ws (λ c. cond (eqb c (w .process)) (adds w (a c)) (a c)) (λ v m. each v (List·Memᴰ·tail m))
 
   -- from the sum at the old counts to the sum at the new ones
   pub run-newly : (es : List Entry) (before after : ℕ → ℕ) → ((q : ℕ) → before q ≤ after q) → ((q : ℕ) → after q ≤ writesBy q es)
@@ -69,4 +114,6 @@ module _ (n : ℕ) (row : ℕ → Row) where
       ≡ sumBelow n (λ q. valueAfter (λ i. row i .delta) q (after q) es) % 2 ^ 32
   run-newly es before after grows capped each =
       run-sum (keep _ (waiters es)) _ (λ w m. each w (mem-keep _ (waiters es) m .0))
-      ∙ ap (λ (a : ℕ → ℕ). sumBelow n a % 2 ^ 32) (array-run adds (λ q k. valueAfter (λ i. row i .delta) q k es) es (λ e old b w. value-turn (λ i. row i .delta) b w) before after grows capped)
+      ∙ ap (λ (a : ℕ → ℕ). sumBelow n a % 2 ^ 32)
+      (array-run componentOf turnOf adds (λ q k. valueAfter (λ i. row i .delta) q k es) before after (λ w m. value-turn (λ i. row i .delta) (waiter-writes es w m)) grows
+      (λ q. omega (arith, log-writes q es, capped q)) (log-lists before after es))

@@ -34,7 +34,7 @@ pub before-trans : {a b c : List Entry} → Before a b → Before b c → Before
 before-trans f same = f
 before-trans f (later g) = later (before-trans f g)
 
-pub before-tail : {e : Entry} {a b : List Entry} → Before (e ∷ a) b → Before a b
+before-tail : {e : Entry} {a b : List Entry} → Before (e ∷ a) b → Before a b
 before-tail f = before-trans (later same) f
 
 pub before-read : (p y : ℕ) (es : List Entry) → Before (beforeRead p y es) es

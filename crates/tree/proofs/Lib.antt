@@ -3,3 +3,4 @@ pub mod Others
 pub mod Stands
 pub mod Moves
 pub mod Theorem
+pub mod Linear

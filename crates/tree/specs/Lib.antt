@@ -1,2 +1,3 @@
 pub mod Tree
 pub mod Machine
+pub mod Log
