@@ -1,13 +1,13 @@
 -- Demand 3 holds after every accepted recording, of every height.
-use Prim.Native.Nat.{ℕ, zero, suc, _+_, _*_, _^_, _≤_, _<_}
+use Prim.Native.Nat.{ℕ, _+_, _*_, _^_, _<_}
 use native.Mathlib.Omega.{arith}
-use mathlib.Core.Path.{_≡_, refl, sym, ap, _∙_, subst}
-use mathlib.Core.Logic.{_⊎_, inl, inr, ⊎-elim}
-use mathlib.Core.Bool.{Bool, true, false}
-use mathlib.Core.List.{List, List·Memᴰ}
+use mathlib.Core.Path.{_≡_, sym, _∙_}
+use mathlib.Core.Logic.{⊎-elim}
+use mathlib.Core.Bool.{Bool}
+use mathlib.Core.List.{List}
 use Rattle.meaning.specs.Layout.{height}
-use Rattle.meaning.specs.Run.{State, initial, start, takeStep, Outcome, accepted, outcome}
-use Rattle.meaning.specs.TakenIn.{listed, positionOf, rank}
+use Rattle.meaning.specs.Run.{State, start, takeStep, accepted, outcome}
+use Rattle.meaning.specs.TakenIn.{listed, rank}
 use Rattle.ledger.proofs.Good.{Good, Stepping, false-true}
 use Rattle.ledger.proofs.Kept.{found}
 use Rattle.ledger.proofs.StepCount.{StepCount, count-step, count-start, count-initial}
@@ -18,10 +18,10 @@ use Rattle.engine.proofs.Accepted.{accepted-keeps, accepted-alone}
 use Rattle.demand.specs.Demand3.{Demand3}
 
 -- what is carried through the records
-record Carried (h : ℕ) (st : State) : Type 0 where
-  counted : StepCount h st
-  tied : Tied h st
-  told : Told h st
+pub record Carried (h : ℕ) (st : State) : Type 0 where
+  pub counted : StepCount h st
+  pub tied : Tied h st
+  pub told : Told h st
 
 carried-step : (h p : ℕ) (st : State) → Stepping h p st → Carried h st → Carried h (takeStep h p st)
 carried-step h p st s c =
@@ -35,6 +35,12 @@ carried-start h p adds delta st g b f o c =
       tied = tied-start h p adds delta st g b f o (c .tied);
       told = told-start h p adds delta st g b f o (c .told);
     }
+
+-- it holds after every accepted recording
+pub carried : (s : List ℕ) (st : State) → outcome s ≡ accepted st → Good (height s) st × Carried (height s) st
+carried s st e =
+    accepted-keeps Carried (λ h. record { counted = count-initial h; tied = tied-initial h; told = told-initial h }) (λ h p x y z. carried-step h p x y z)
+    (λ h p a d x y b f o z. carried-start h p a d x y b f o z) s st e
 
 pub demand-3 : (s : List ℕ) (st : State) → outcome s ≡ accepted st → Demand3 (height s) st
 unfolding rank
@@ -54,9 +60,7 @@ demand-3 s st e =
     }
   where
     g : Good (height s) st × Carried (height s) st
-    g =
-        accepted-keeps Carried (λ h. record { counted = count-initial h; tied = tied-initial h; told = told-initial h }) (λ h p x y z. carried-step h p x y z)
-        (λ h p a d x y b f o z. carried-start h p a d x y b f o z) s st e
+    g = carried s st e
 
     c : Carried (height s) st
     c = g .1

@@ -18,7 +18,7 @@ use Rattle.engine.proofs.Agrees.{is-busy, is-idle}
 use Rattle.engine.proofs.Runs.{take-step, take-start}
 
 -- a refusal that is none lets the run go on
-none-refused : (k at : ℕ) (o : Outcome) (st : State) → unless k at o ≡ accepted st → (k ≡ 0) × (o ≡ accepted st)
+pub none-refused : (k at : ℕ) (o : Outcome) (st : State) → unless k at o ≡ accepted st → (k ≡ 0) × (o ≡ accepted st)
 unfolding unless
 none-refused zero at o st e = (refl, e)
 none-refused (suc k) at o st e = let z : _≡_ {A = ℕ} 0 1 = cc in absurd (omega arith)

@@ -106,7 +106,7 @@ length-rowBytes : (w : Row) (rank : ℕ) → length (rowBytes w rank) ≡ 20
 unfolding rowBytes
 length-rowBytes w rank = simp (length-append, length-fourBytes)
 
-length-rowsBytes : (h : ℕ) (st : State) (k : ℕ) → length (rowsBytes h st k) ≡ 20 * k
+pub length-rowsBytes : (h : ℕ) (st : State) (k : ℕ) → length (rowsBytes h st k) ≡ 20 * k
 unfolding rowsBytes
 length-rowsBytes h st zero = refl
 length-rowsBytes h st (suc k) = simp (length-append, length-rowsBytes h st k, length-rowBytes) (omega arith)

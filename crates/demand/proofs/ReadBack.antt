@@ -1,0 +1,169 @@
+-- Demand 3 holds of the bytes that report writes: read back with the recording, they give the list, the answers and the counter.
+use Prim.Native.Nat.{ℕ, _+_, _*_, _%_, _^_, _≤_, _<_}
+use native.Mathlib.Omega.{arith}
+use mathlib.Core.Path.{_≡_, refl, sym, ap, _∙_, subst⁻¹}
+use mathlib.Core.Bool.{Bool, true, false, cond}
+use mathlib.Core.List.{List, [], _∷_, _++_, List·Memᴰ}
+use lib.ListN.{length, drop}
+use lib.Dec.{leb, eqb}
+use Rattle.recording.specs.Record.{Answer}
+use Rattle.meaning.specs.Layout.{height}
+use Rattle.meaning.specs.Steps.{plus}
+use Rattle.meaning.specs.Run.{Row, State, Outcome, refused, accepted, outcome}
+use Rattle.meaning.specs.TakenIn.{listed, positionOf, rank}
+use Rattle.meaning.specs.Plain.{numberAfter, runDown, upTo, timesIn}
+use Rattle.meaning.specs.Report.{one, reportBytes, needed, passes, answerWith, bufferWith, reportAnswer, reportBuffer}
+use Rattle.ledger.proofs.Good.{Good}
+use Rattle.counter.proofs.Number.{run-same}
+use Rattle.counter.proofs.Lists.{position-le, mem-up-to, times-once}
+use Rattle.counter.proofs.Told.{Told}
+use Rattle.engine.specs.Ends.{answerOf, Reports}
+use Rattle.engine.specs.declared.Reply.{Reply}
+use Rattle.engine.proofs.Laws.{refusal-positive}
+use Rattle.demand.specs.Demand3.{Demand3}
+use Rattle.demand.specs.ReadBack.{operationsIn, counterIn, kindIn, finishedIn, stepsIn, answerIn, rankIn, secondsIn, listIn, rowIn, operationsBy, ReadBack}
+use Rattle.demand.proofs.Holds.{carried, demand-3}
+use Rattle.demand.proofs.ByRank.{few, by-rank}
+use Rattle.demand.proofs.Deltas.{starts-in, delta-in}
+use Rattle.demand.proofs.Records.{ended-before}
+use Rattle.demand.proofs.Bytes.{operations-in, counter-in, kind-in, finished-in, steps-in, answer-in, rank-in, seconds-in}
+
+-- a recording that report passes is accepted, and its report stands at the buffer's front
+passed : (s buf : List ℕ) → reportAnswer s buf ≡ passes → (st : State) × (outcome s ≡ accepted st) × (reportBuffer s buf ≡ reportBytes (height s) st ++ drop (needed st) buf)
+unfolding reportAnswer reportBuffer answerWith bufferWith passes
+passed s buf e = go (outcome s) refl e
+  where
+    go : (o : Outcome) → outcome s ≡ o → answerWith o (length buf) ≡ passes
+        → (st : State) × (o ≡ accepted st) × (bufferWith (height s) o buf ≡ reportBytes (height s) st ++ drop (needed st) buf)
+    go (refused a) d z = absurd (omega (arith, refusal-positive s a d, ap (λ (x : Answer). x .number) z))
+    go (accepted st) d z = (st, refl, room (leb (needed st) (length buf)) z)
+      where
+        room : (t : Bool) → cond t passes (record { number = 11; place = needed st }) ≡ passes → cond t (reportBytes (height s) st ++ drop (needed st) buf) buf ≡ reportBytes (height s) st ++ drop (needed st) buf
+        room true y = refl
+        room false y = absurd (omega (arith, ap (λ (x : Answer). x .number) y))
+
+-- the plain number is below 2^32
+run-below : (row : ℕ → Row) (v : ℕ) (l : List ℕ) → v < 2 ^ 32 → runDown row v l < 2 ^ 32
+unfolding runDown numberAfter plus
+run-below row v [] b = b
+run-below row v (i ∷ l) b = run-below row (numberAfter (row i) v) l (go (eqb (row i .kind) 3))
+  where
+    go : (t : Bool) → cond t ((v + row i .delta) % 2 ^ 32) v < 2 ^ 32
+    go true = omega arith
+    go false = b
+
+finished-few : (t : Bool) → one t ≤ 1
+unfolding one
+finished-few true = omega arith
+finished-few false = omega arith
+
+finished-one : (t : Bool) → one t ≡ 1 → t ≡ true
+unfolding one
+finished-one true e = refl
+finished-one false e = absurd (omega arith)
+
+finished-zero : (t : Bool) → one t ≡ 0 → t ≡ false
+unfolding one
+finished-zero true e = absurd (omega arith)
+finished-zero false e = refl
+
+module _ (s : List ℕ) (st : State) (e : outcome s ≡ accepted st) (rest : List ℕ) where
+  abbrev h : ℕ
+  h = height s
+
+  abbrev b : List ℕ
+  b = reportBytes h st ++ rest
+
+  abbrev list : List ℕ
+  list = listed h (st .history)
+
+  good : Good h st
+  good = carried s st e .0
+
+  told : Told h st
+  told = carried s st e .1 .told
+
+  demand : Demand3 h st
+  demand = demand-3 s st e
+
+  operations : operationsIn b ≡ st .operations
+  operations = operations-in h st rest (good .few)
+
+  started : (i : ℕ) → i < operationsIn b → i < st .operations
+  started i l = omega (arith, operations)
+
+  ranks : (i : ℕ) → i < st .operations → rankIn b i ≡ positionOf i list
+  unfolding rank
+  ranks i l = rank-in h st rest i l (omega (arith, position-le i list, few (st .operations) (told .apart) (told .known), good .few))
+
+  list-in : listIn b ≡ list
+  unfolding listIn
+  list-in = rw operations (by-rank (st .operations) list (told .apart) (told .known) (rankIn b) ranks)
+
+  -- the rows agree on what the plain number takes
+  run-in : (l : List ℕ) → ((i : ℕ) → List·Memᴰ i l → List·Memᴰ i list) → runDown (rowIn s b) 0 l ≡ runDown (st .row) 0 l
+  unfolding rowIn
+  run-in l sub =
+      run-same (rowIn s b) (st .row) 0 l (λ i m. let k = told .known i (sub i m) in (kind-in h st rest i k, delta-in s st e i k))
+
+  is-read : (i : ℕ) → i < operationsIn b → kindIn b i ≡ 2 → st .row i .kind ≡ 2
+  is-read i l k = sym (kind-in h st rest i (started i l)) ∙ k
+
+  is-finished : (i : ℕ) → i < operationsIn b → finishedIn b i ≡ 1 → st .row i .finished ≡ true
+  is-finished i l f = finished-one (st .row i .finished) (sym (finished-in h st rest i (started i l)) ∙ f)
+
+  is-unfinished : (i : ℕ) → i < operationsIn b → finishedIn b i ≡ 0 → st .row i .finished ≡ false
+  is-unfinished i l f = finished-zero (st .row i .finished) (sym (finished-in h st rest i (started i l)) ∙ f)
+
+  answers : (i : ℕ) → i < operationsIn b → kindIn b i ≡ 2 → finishedIn b i ≡ 1 → answerIn b i ≡ runDown (rowIn s b) 0 (upTo i (listIn b))
+  answers i l k f =
+      let a = demand .answers i (is-read i l k) (is-finished i l f) in
+      answer-in h st rest i (started i l) (omega (arith, a, run-below (st .row) 0 (upTo i list) (omega arith))) ∙ a
+      ∙ sym (run-in (upTo i list) (λ j m. mem-up-to i j list m)) ∙ ap (λ (x : List ℕ). runDown (rowIn s b) 0 (upTo i x)) (sym list-in)
+
+  counter : runDown (rowIn s b) 0 (listIn b) ≡ counterIn b
+  counter =
+      ap (λ (x : List ℕ). runDown (rowIn s b) 0 x) list-in ∙ run-in list (λ i m. m) ∙ demand .counter
+      ∙ sym (counter-in h st rest (omega (arith, demand .counter, run-below (st .row) 0 list (omega arith))))
+
+  order : (i j : ℕ) → i < operationsIn b → j < operationsIn b → finishedIn b i ≡ 1 → timesIn i (upTo j (operationsBy s)) ≡ timesIn i (operationsBy s)
+      → 1 ≤ rankIn b j → rankIn b i < rankIn b j
+  unfolding rank
+  order i j l m f before r =
+      let n = is-finished i l f in
+      let x = ranks i (started i l) in
+      let y = ranks j (started j m) in
+      omega (arith, x, y, demand .order i j n (ended-before s st e i j (started j m) n before) (omega arith))
+
+  steps : (i : ℕ) → i < operationsIn b → stepsIn b i ≡ st .row i .steps
+  steps i l = steps-in h st rest i (started i l) (omega (arith, carried s st e .1 .counted .few i, good .high))
+
+  addition-steps : (i : ℕ) → i < operationsIn b → finishedIn b i ≡ 1 → kindIn b i ≡ 3 → (stepsIn b i ≡ 2 + 4 * h + 4 * secondsIn b i) × (secondsIn b i ≤ h)
+  addition-steps i l f k =
+      let a = demand .addition-steps i (is-finished i l f) (sym (kind-in h st rest i (started i l)) ∙ k) in
+      let n = seconds-in h st rest i (started i l) (omega (arith, a .1, good .high)) in
+      (omega (arith, steps i l, a .0, n), omega (arith, a .1, n))
+
+  bytes-read-back : ReadBack s b
+  bytes-read-back =
+      record {
+        rows = operations ∙ sym (starts-in s st e);
+        either = λ i l. omega (arith, finished-in h st rest i (started i l), finished-few (st .row i .finished));
+        answers = answers;
+        counter = counter;
+        ranks = λ i l. ap (λ (x : List ℕ). positionOf i x) list-in ∙ sym (ranks i (started i l));
+        finished = λ i l f. ap (λ (x : List ℕ). timesIn i x) list-in ∙ demand .finished i (is-finished i l f);
+        unfinished = λ i. rw list-in (times-once i list (told .apart));
+        reads = λ i l k f. ap (λ (x : List ℕ). timesIn i x) list-in ∙ demand .reads i (is-read i l k) (is-unfinished i l f);
+        order = order;
+        read-steps = λ i l f k. steps i l ∙ demand .read-steps i (is-finished i l f) (is-read i l k);
+        addition-steps = addition-steps;
+        bound = λ i l f. omega (arith, steps i l, demand .bound i (is-unfinished i l f));
+      }
+
+-- of the buffer after every report that passes, as the definition has it and as the function promises it
+pub read-back : (s buf : List ℕ) → reportAnswer s buf ≡ passes → ReadBack s (reportBuffer s buf)
+read-back s buf e = let p = passed s buf e in subst⁻¹ (ReadBack s) (p .2) (bytes-read-back s (p .0) (p .1) (drop (needed (p .0)) buf))
+
+pub report-reads-back : (s before after : List ℕ) (r : Reply) → Reports s before after r → answerOf r ≡ passes → ReadBack s after
+report-reads-back s before after r x e = subst⁻¹ (ReadBack s) (x .buffer) (read-back s before (sym (x .answer) ∙ e))

@@ -1,0 +1,183 @@
+-- Which operation each record is of: as the recording tells it, as the history has it, and where an operation's first and last stand.
+use Prim.Native.Nat.{ℕ, zero, suc, _+_, _^_, _≤_, _<_}
+use native.Mathlib.Omega.{arith}
+use mathlib.Core.Path.{_≡_, refl, sym, ap, _∙_}
+use mathlib.Core.Logic.{⊎-elim}
+use mathlib.Core.Bool.{Bool, true, false, cond}
+use mathlib.Core.List.{List, [], _∷_, _++_, append-nil, append-assoc, List·Memᴰ, List·Memᴰ·head, List·Memᴰ·append-cases, List·Memᴰ·eq-of-singleton, List·Memᴰ·not-nil, Memᴰ·append-left, Memᴰ·append-right}
+use lib.ListN.{length, getD, length-append, List·getD-append}
+use lib.Seq.{getD-at}
+use lib.Dec.{eqb, ltb}
+use borrow.Author.Tests.{eqb-true, eqb-false, eq-eqb, ltb-true, ltb-false}
+use Rattle.arrays.proofs.Laws.{upd-cases}
+use Rattle.recording.specs.declared.Event.the-variants.{Step, Read, Add}
+use Rattle.meaning.specs.Layout.{Records, end, broken, event, height, recordsOf}
+use Rattle.meaning.specs.Steps.{upd, nextRecord, atStep, idle}
+use Rattle.meaning.specs.Run.{Entry, State, blank, initial, started, newRow, start, rowAfter, takeStep, takeEvent, recordRefusal, accepted, run, outcome}
+use Rattle.meaning.specs.Plain.{upTo, timesIn}
+use Rattle.machine.proofs.Laws.{effect-keeps}
+use Rattle.ledger.proofs.Good.{Good, Stepping, recordAfter, accessBy, stepped-row, false-true}
+use Rattle.counter.proofs.Lists.{up-to-first, up-to-last}
+use Rattle.engine.proofs.Accepted.{none-refused, accepted-run, accepted-keeps}
+use Rattle.demand.specs.ReadBack.{operationsFrom, operationsBy}
+
+-- the operations of the history's entries, the earliest first
+abbrev operationsIn : List Entry → List ℕ
+operationsIn [] = []
+operationsIn (e ∷ es) = operationsIn es ++ (e .operation ∷ [])
+
+length-operations : (es : List Entry) → length (operationsIn es) ≡ length es
+length-operations [] = refl
+length-operations (e ∷ es) = length-append (operationsIn es) (e .operation ∷ []) ∙ omega (arith, length-operations es)
+
+-- ---- as the recording tells it
+
+module _ (h p : ℕ) (st : State) (latest : ℕ → ℕ) (same : (q : ℕ) → latest q ≡ st .process q .operation) where
+  same-step : (q : ℕ) → latest q ≡ takeStep h p st .process q .operation
+  unfolding takeStep nextRecord atStep
+  same-step q =
+      let keeps = ap (λ (j : ℕ × Bool × ℕ). j .0) (effect-keeps p (st .process p) (st .memory) (accessBy h p st)) in
+      upd-cases (st .process) p (recordAfter h p st) (λ r. latest q ≡ r .operation) q (λ e. ap latest e ∙ same p ∙ sym keeps) (λ n. same q)
+
+  same-start : (adds : Bool) (delta q : ℕ) → upd latest p (st .operations) q ≡ start h p adds delta st .process q .operation
+  unfolding start upd started
+  same-start adds delta q = go (eqb q p)
+    where
+      go : (t : Bool) → cond t (st .operations) (latest q) ≡ (cond t (started (st .operations) adds delta) (st .process q)) .operation
+      go true = refl
+      go false = same q
+
+run-operations : (h : ℕ) (st : State) (rs : Records) (last : State) (latest : ℕ → ℕ) → ((q : ℕ) → latest q ≡ st .process q .operation) → run h st rs ≡ accepted last
+    → operationsIn (last .history) ≡ operationsIn (st .history) ++ operationsFrom (st .operations) latest rs
+unfolding run operationsFrom takeEvent takeStep start
+run-operations h st end last latest same e = ap (λ (x : State). operationsIn (x .history)) (sym stays) ∙ sym (append-nil (operationsIn (st .history)))
+  where
+    stays : st ≡ last
+    stays = cc
+run-operations h st (broken at) last latest same e = let z : _≡_ {A = ℕ} 0 1 = cc in absurd (omega arith)
+run-operations h st (event at (Step p) rs) last latest same e =
+    run-operations h (takeStep h p st) rs last latest (same-step h p st latest same) (none-refused (recordRefusal h st (Step p)) at _ last e .1)
+    ∙ append-assoc (operationsIn (st .history)) (st .process p .operation ∷ []) (operationsFrom (st .operations) latest rs)
+    ∙ ap (λ (i : ℕ). operationsIn (st .history) ++ (i ∷ operationsFrom (st .operations) latest rs)) (sym (same p))
+run-operations h st (event at (Read p) rs) last latest same e =
+    run-operations h (start h p false 0 st) rs last (upd latest p (st .operations)) (same-start h p st latest same false 0) (none-refused (recordRefusal h st (Read p)) at _ last e .1)
+    ∙ append-assoc (operationsIn (st .history)) (st .operations ∷ []) (operationsFrom (suc (st .operations)) (upd latest p (st .operations)) rs)
+run-operations h st (event at (Add p d) rs) last latest same e =
+    run-operations h (start h p true d st) rs last (upd latest p (st .operations)) (same-start h p st latest same true d) (none-refused (recordRefusal h st (Add p d)) at _ last e .1)
+    ∙ append-assoc (operationsIn (st .history)) (st .operations ∷ []) (operationsFrom (suc (st .operations)) (upd latest p (st .operations)) rs)
+
+operations-by : (s : List ℕ) (st : State) → outcome s ≡ accepted st → operationsBy s ≡ operationsIn (st .history)
+unfolding operationsBy initial idle
+operations-by s st e = sym (run-operations (height s) initial (recordsOf s) st (λ p. 0) (λ q. refl) (accepted-run s st e .1))
+
+-- ---- an operation's first and last
+
+record Placed (h : ℕ) (st : State) : Type 0 where
+  known : (i : ℕ) → List·Memᴰ i (operationsIn (st .history)) → i < st .operations
+  begun : (i : ℕ) → i < st .operations → List·Memᴰ i (operationsIn (st .history))
+  first : (i : ℕ) → i < st .operations → length (upTo i (operationsIn (st .history))) ≡ st .row i .started
+  last : (i : ℕ) → st .row i .finished ≡ true → (st .row i .ended < length (st .history)) × (getD (operationsIn (st .history)) (st .row i .ended) 0 ≡ i)
+
+-- what was the last stays so, with one more after it
+last-stays : (es : List Entry) (j i n : ℕ) → (n < length es) × (getD (operationsIn es) n 0 ≡ i) → (n < suc (length es)) × (getD (operationsIn es ++ (j ∷ [])) n 0 ≡ i)
+last-stays es j i n k = (omega (arith, k .0), List·getD-append (operationsIn es) (j ∷ []) 0 n (omega (arith, k .0, length-operations es)) ∙ k .1)
+
+placed-initial : (h : ℕ) → Placed h initial
+unfolding initial blank
+placed-initial h =
+    record {
+      known = λ i m. absurd (List·Memᴰ·not-nil m);
+      begun = λ i b. absurd (omega arith);
+      first = λ i b. absurd (omega arith);
+      last = λ i f. absurd (false-true f);
+    }
+
+placed-step : (h p : ℕ) (st : State) → Stepping h p st → Placed h st → Placed h (takeStep h p st)
+unfolding takeStep rowAfter
+placed-step h p st s k =
+    record {
+      known = λ i m. ⊎-elim (k .known i) (λ n. omega (arith, List·Memᴰ·eq-of-singleton n, s .good .owns p (s .acts))) (List·Memᴰ·append-cases before m);
+      begun = λ i b. Memᴰ·append-left _ (k .begun i b);
+      first = λ i b. stepped-row h p st s i (λ w. length (upTo i (before ++ (own ∷ []))) ≡ w .started)
+          (λ e. stays i b ∙ ap (λ (j : ℕ). st .row j .started) e) (λ n. stays i b);
+      last = λ i. stepped-row h p st s i (λ w. w .finished ≡ true → (w .ended < suc (length (st .history))) × (getD (before ++ (own ∷ [])) (w .ended) 0 ≡ i))
+          (λ e f. (omega arith, getD-at before own [] 0 (length (st .history)) (length-operations (st .history)) ∙ sym e))
+          (λ n f. last-stays (st .history) own i (st .row i .ended) (k .last i f));
+    }
+  where
+    before : List ℕ
+    before = operationsIn (st .history)
+
+    own : ℕ
+    own = st .process p .operation
+
+    stays : (i : ℕ) → i < st .operations → length (upTo i (before ++ (own ∷ []))) ≡ st .row i .started
+    stays i b = ap length (up-to-first i before (own ∷ []) (k .begun i b)) ∙ k .first i b
+
+placed-start : (h p : ℕ) (adds : Bool) (delta : ℕ) (st : State) → Good h st → p < 2 ^ h → st .process p .step ≡ 0 → st .operations < 1024 → Placed h st → Placed h (start h p adds delta st)
+unfolding start newRow
+placed-start h p adds delta st g inside free room k =
+    record {
+      known = λ i m. ⊎-elim (λ n. omega (arith, k .known i n)) (λ n. omega (arith, List·Memᴰ·eq-of-singleton n)) (List·Memᴰ·append-cases before m);
+      begun = λ i b. split i (λ e. Memᴰ·append-right before (List·Memᴰ·head e)) (λ n. Memᴰ·append-left _ (k .begun i (omega arith)));
+      first = λ i b. upd-cases (st .row) new _ (λ w. length (upTo i (before ++ (new ∷ []))) ≡ w .started) i
+          (λ e. ap (λ (j : ℕ). length (upTo j (before ++ (new ∷ [])))) e ∙ ap length (up-to-last new before (λ m. omega (arith, k .known new m))) ∙ length-operations (st .history))
+          (λ n. ap length (up-to-first i before (new ∷ []) (k .begun i (omega arith))) ∙ k .first i (omega arith));
+      last = λ i. upd-cases (st .row) new _ (λ w. w .finished ≡ true → (w .ended < suc (length (st .history))) × (getD (before ++ (new ∷ [])) (w .ended) 0 ≡ i)) i
+          (λ e f. absurd (false-true f)) (λ n f. last-stays (st .history) new i (st .row i .ended) (k .last i f));
+    }
+  where
+    before : List ℕ
+    before = operationsIn (st .history)
+
+    new : ℕ
+    new = st .operations
+
+    split : (i : ℕ) → {P : Type 0} → (i ≡ new → P) → ((i ≡ new → ⊥) → P) → P
+    split i {P} hit miss = go (eqb i new) refl
+      where
+        go : (t : Bool) → eqb i new ≡ t → P
+        go true e = hit (eqb-true i new e)
+        go false e = miss (eqb-false i new e)
+
+-- ---- finished before started
+
+times-some : (i n : ℕ) (l : List ℕ) → n < length l → getD l n 0 ≡ i → 1 ≤ timesIn i l
+unfolding timesIn
+times-some i n [] b e = absurd (omega arith)
+times-some i zero (x ∷ l) b e = rw (eq-eqb i x (sym e)) (omega arith)
+times-some i (suc n) (x ∷ l) b e = omega (arith, times-some i n l (omega arith) e)
+
+-- an element that stands at j's first or after it is more often in the whole list than before j
+times-later : (i j n : ℕ) (l : List ℕ) → length (upTo j l) ≤ n → n < length l → getD l n 0 ≡ i → timesIn i (upTo j l) < timesIn i l
+unfolding upTo timesIn
+times-later i j n [] a b e = absurd (omega arith)
+times-later i j n (x ∷ l) a b e = go (eqb j x) n a b e (λ k. times-later i j k l)
+  where
+    go : (t : Bool) (n : ℕ) → length (cond t [] (x ∷ upTo j l)) ≤ n → n < suc (length l) → getD (x ∷ l) n 0 ≡ i
+        → ((k : ℕ) → length (upTo j l) ≤ k → k < length l → getD l k 0 ≡ i → timesIn i (upTo j l) < timesIn i l)
+        → timesIn i (cond t [] (x ∷ upTo j l)) < cond (eqb i x) 1 0 + timesIn i l
+    go true n a b e ih = times-some i n (x ∷ l) b e
+    go false zero a b e ih = absurd (omega arith)
+    go false (suc n) a b e ih = omega (arith, ih n (omega arith) (omega arith) e)
+
+pub ended-before : (s : List ℕ) (st : State) → outcome s ≡ accepted st → (i j : ℕ) → j < st .operations → st .row i .finished ≡ true
+    → timesIn i (upTo j (operationsBy s)) ≡ timesIn i (operationsBy s) → st .row i .ended < st .row j .started
+ended-before s st e i j b f all = go (ltb (st .row i .ended) (st .row j .started)) refl
+  where
+    k : Placed (height s) st
+    k = accepted-keeps Placed placed-initial (λ h p x y z. placed-step h p x y z) (λ h p a d x g c f o z. placed-start h p a d x g c f o z) s st e .1
+
+    list : List ℕ
+    list = operationsIn (st .history)
+
+    its : timesIn i (upTo j list) ≡ timesIn i list
+    its = ap (λ (l : List ℕ). timesIn i (upTo j l)) (sym (operations-by s st e)) ∙ all ∙ ap (λ (l : List ℕ). timesIn i l) (operations-by s st e)
+
+    go : (t : Bool) → ltb (st .row i .ended) (st .row j .started) ≡ t → st .row i .ended < st .row j .started
+    go true d = ltb-true (st .row i .ended) (st .row j .started) d
+    go false d =
+        let l = k .last i f in
+        absurd
+        (omega
+        (arith, its, times-later i j (st .row i .ended) list (omega (arith, ltb-false (st .row i .ended) (st .row j .started) d, k .first j b)) (omega (arith, l .0, length-operations (st .history))) (l .1)))
