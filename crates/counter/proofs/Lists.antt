@@ -1,24 +1,24 @@
 -- Positions in a list that grows at its end, and that every write that is in node 1 is listed.
-use Prim.Native.Nat.{ℕ, zero, suc, _+_, max, _≤_, _<_}
+use Prim.Native.Nat.{ℕ, zero, suc, _+_, max, _≤_}
 use native.Mathlib.Omega.{arith}
-use mathlib.Core.Path.{_≡_, refl, sym, ap, ap₂, _∙_, subst, subst⁻¹}
-use mathlib.Core.Logic.{_⊎_, inl, inr, ⊎-elim}
+use mathlib.Core.Path.{_≡_, refl, sym, ap, ap₂, _∙_, subst⁻¹}
+use mathlib.Core.Logic.{_⊎_, ⊎-elim}
 use mathlib.Core.Bool.{Bool, true, false, not, cond, _&&_}
-use mathlib.Core.List.{List, [], _∷_, _++_, List·Memᴰ, List·Memᴰ·head, List·Memᴰ·tail, List·Memᴰ·append-cases, List·Memᴰ·not-nil, Memᴰ·append-left, Memᴰ·append-right}
+use mathlib.Core.List.{List, [], _∷_, _++_, List·Memᴰ, List·Memᴰ·head, List·Memᴰ·tail, List·Memᴰ·not-nil, Memᴰ·append-left, Memᴰ·append-right}
 use lib.ListN.{length}
 use lib.Dec.{eqb, ltb}
-use borrow.Author.Tests.{eqb-true, eqb-false, eq-eqb, ne-eqb, ltb-true, ltb-false}
+use borrow.Author.Tests.{eqb-true, eqb-false, eq-eqb, ne-eqb, ltb-true}
 use Rattle.meaning.specs.Tree.{leafOf, ancestor}
-use Rattle.meaning.specs.Access.{Access, starts, readsRoot, readsLeaf, writesLeaf, links, readsLeft, readsRight, stores, isLeafWrite, isRootRead, isStoreAt}
+use Rattle.meaning.specs.Access.{Access, starts, readsRoot, readsLeaf, writesLeaf, links, readsLeft, readsRight, stores, isRootRead, isStoreAt}
 use Rattle.meaning.specs.Run.{Entry}
 use Rattle.meaning.specs.TakenIn.{beforeRead, keep, further, positionOf, placed, listed}
 use Rattle.meaning.specs.Plain.{upTo, timesIn}
 use Rattle.taken.specs.CountIn.{writesBy, countStore, countIn, Waiter, waiterOf, waiters}
-use Rattle.taken.proofs.Agree.{Once, none, more, by-before, before-read}
+use Rattle.taken.proofs.Agree.{Once, more, by-before, before-read}
 use Rattle.listing.specs.Queue.{isCounted, operationsOf}
 use Rattle.listing.proofs.Laws.{Distinct, nothing, another, listed-some}
 use Rattle.ledger.proofs.Good.{false-true}
-use Rattle.ledger.proofs.Kept.{absent, found, position-neither, mem-operations}
+use Rattle.ledger.proofs.Kept.{absent, found, position-neither}
 use Rattle.ledger.proofs.Waiters.{rootCount, newly, placed-is, NewOrOld, old, new, new-or-old, count-cap}
 
 -- ---- positions

@@ -1,6 +1,6 @@
 -- The plain number run down a list of additions is the sum of the array that the list runs over; so it goes from the sum at the old counts
 -- to the sum at the new ones.
-use Prim.Native.Nat.{ℕ, zero, suc, _+_, _%_, _^_, _≤_, _<_}
+use Prim.Native.Nat.{ℕ, suc, _+_, _%_, _^_, _≤_, _<_}
 use native.Mathlib.Omega.{arith}
 use mathlib.Core.Path.{_≡_, refl, sym, ap, ap₂, _∙_, subst, subst⁻¹}
 use mathlib.Core.Bool.{Bool, true, false, not, cond, _&&_}
@@ -11,13 +11,13 @@ use Rattle.meaning.specs.Access.{isLeafWrite}
 use Rattle.meaning.specs.Steps.{plus}
 use Rattle.meaning.specs.Run.{Entry, Row}
 use Rattle.meaning.specs.TakenIn.{keep}
-use Rattle.meaning.specs.Plain.{numberAfter, runDown, upTo}
+use Rattle.meaning.specs.Plain.{numberAfter, runDown}
 use Rattle.taken.specs.CountIn.{writesBy, Waiter, waiterOf, waiters}
 use Rattle.taken.proofs.Agree.{Writes, here, there, turn-below}
 use Rattle.listing.specs.Queue.{isCounted, operationsOf}
 use Rattle.listing.proofs.Laws.{keep-append}
 use Rattle.ledger.proofs.Kept.{mem-keep}
-use Rattle.ledger.proofs.Waiters.{waiters-write, waiters-still, waiter-writes}
+use Rattle.ledger.proofs.Waiters.{waiter-writes}
 use Rattle.tree.specs.Log.{writesTo, newlyIn, Lists, none, passes, takes, applied}
 use Rattle.tree.proofs.Moves.{by-number}
 use Rattle.tree.proofs.Linear.{writes-same, writes-other, array-run}

@@ -1,14 +1,13 @@
 -- Which processes' leaves lie under a node of the counter's tree, and at which level it stands above them.
-use Prim.Native.Nat.{ℕ, zero, suc, _+_, _-_, _*_, _/_, _%_, _^_, _≤_, _<_}
+use Prim.Native.Nat.{ℕ, zero, suc, _+_, _-_, _^_, _≤_, _<_}
 use native.Mathlib.Nat.{div-eq-of-lt}
 use native.Mathlib.Omega.{arith}
-use mathlib.Core.Path.{_≡_, refl, sym, ap, _∙_, subst, subst⁻¹}
+use mathlib.Core.Path.{_≡_, refl, sym, ap, _∙_}
 use mathlib.Core.Logic.{_⊎_, inl, inr, ⊎-elim}
 use mathlib.Core.Bool.{Bool, true, false, cond, _&&_}
 use lib.Dec.{ltb, eqb}
-use lib.Pow.{pow-pos}
-use borrow.Author.Tests.{ltb-true, ltb-false, lt-ltb, eqb-true, eqb-false, eq-eqb, ne-eqb}
-use Rattle.meaning.specs.Tree.{processes, leafOf, left, right, parent, ancestor, root}
+use borrow.Author.Tests.{ltb-true, ltb-false, lt-ltb, eqb-true, eqb-false, eq-eqb}
+use Rattle.meaning.specs.Tree.{processes, leafOf, parent, ancestor}
 use Rattle.ledger.proofs.Under.{same-level, node-is}
 use Rattle.ledger.proofs.Good.{false-true}
 use Rattle.counter.specs.SumTree.{seek, levelOver, isOver}

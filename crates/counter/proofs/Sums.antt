@@ -1,11 +1,11 @@
 -- Sums below a number: term by term, split in two, with one term only, and modulo 2^32.
-use Prim.Native.Nat.{ℕ, zero, suc, _+_, _%_, _^_, _≤_, _<_}
+use Prim.Native.Nat.{ℕ, zero, suc, _+_, _%_, _^_, _<_}
 use native.Mathlib.Omega.{arith}
-use mathlib.Core.Path.{_≡_, refl, sym, ap, ap₂, _∙_}
-use mathlib.Core.Bool.{Bool, true, false, cond}
+use mathlib.Core.Path.{_≡_, refl, sym, ap, ap₂}
+use mathlib.Core.Bool.{Bool, true, false}
 use lib.Dec.{eqb}
-use borrow.Author.Tests.{eqb-true, eqb-false, eq-eqb, ne-eqb}
-use Rattle.meaning.specs.Steps.{upd, plus}
+use borrow.Author.Tests.{eqb-true, eqb-false}
+use Rattle.meaning.specs.Steps.{plus}
 use Rattle.counter.specs.SumTree.{sumBelow}
 
 pub sum-same : (n : ℕ) (f g : ℕ → ℕ) → ((q : ℕ) → q < n → f q ≡ g q) → sumBelow n f ≡ sumBelow n g

@@ -1,35 +1,31 @@
 -- The invariant of the Tree Algorithm holds of the state after any records that pass: so node 1 holds the sum of the leaves' values after
 -- those of their writes that are in node 1, and an addition that has done with node 1 is in it.
-use Prim.Native.Nat.{ℕ, zero, suc, _+_, _-_, _*_, _/_, _%_, _^_, _≤_, _<_}
+use Prim.Native.Nat.{ℕ, zero, suc, _-_, _/_, _%_, _^_, _≤_, _<_}
 use native.Mathlib.Omega.{arith}
-use mathlib.Core.Path.{_≡_, refl, sym, ap, ap₂, _∙_, subst, subst⁻¹, fun-ext}
-use mathlib.Core.Logic.{_⊎_, inl, inr, ⊎-elim}
-use mathlib.Core.Bool.{Bool, true, false, not, cond, _&&_}
-use mathlib.Core.List.{List, [], _∷_}
-use lib.ListN.{length}
-use lib.Dec.{leb, ltb, eqb}
-use borrow.Author.Tests.{lt-ltb}
-use Rattle.arrays.proofs.Laws.{upd-same, upd-other, upd-cases}
+use mathlib.Core.Path.{_≡_, refl, sym, ap, _∙_, subst⁻¹}
+use mathlib.Core.Logic.{inl}
+use mathlib.Core.Bool.{Bool, true, false, cond}
+use mathlib.Core.List.{[], _∷_}
+use lib.Dec.{ltb}
+use Rattle.arrays.proofs.Laws.{upd-same, upd-other}
 use Rattle.cell.specs.Cell.{loadLinked}
-use Rattle.meaning.specs.Tree.{processes, leafOf, ancestor, root as treeRoot}
-use Rattle.meaning.specs.Access.{Access, starts, readsLeaf, isLeafWrite}
-use Rattle.meaning.specs.Steps.{upd, Process, effect, onward, cellAt, withCell, withValue, nextRecord, atStep, sawIt, idle as idleProcess}
-use Rattle.meaning.specs.Run.{Entry, Row, State, initial, blank, started, newRow, start, rowAfter, takeStep}
+use Rattle.meaning.specs.Tree.{processes, leafOf}
+use Rattle.meaning.specs.Access.{Access, starts, isLeafWrite}
+use Rattle.meaning.specs.Steps.{Process, effect, onward, cellAt, withCell, withValue, nextRecord, atStep, sawIt, idle as idleProcess}
+use Rattle.meaning.specs.Run.{Entry, Row, State, initial, started, newRow, start, rowAfter, takeStep}
 use Rattle.taken.specs.CountIn.{writesBy, countIn, countStore}
-use Rattle.ledger.proofs.Did.{did}
-use Rattle.ledger.proofs.Turns.{nodeAt, Turn, root, leaf, write, link, leftward, rightward, store, Next, after-root, after-leaf, after-write, after-link, after-left, after-right, after-store, AtLink, idle, linking}
-use Rattle.ledger.proofs.Good.{Good, Stepping, accessBy, effectBy, recordAfter, entryBy, turns, goes, same-job, same-operation, by-stepper, by-process, stepped-row, started-row, false-true}
-use Rattle.tree.specs.Tree.{Tree, Laws}
-use Rattle.tree.specs.Machine.{Memory, Climber, Machine, Move, Step}
+use Rattle.ledger.proofs.Turns.{nodeAt, Turn, root, leaf, write, link, leftward, rightward, store, Next, after-root, after-leaf, after-write, after-link, after-left, after-right, after-store, idle, linking}
+use Rattle.ledger.proofs.Good.{Good, Stepping, accessBy, recordAfter, turns, goes, same-job, same-operation, by-stepper, by-process, stepped-row}
+use Rattle.tree.specs.Machine.{Move, Step}
 use Rattle.tree.proofs.Invariant.{Invariant}
 use Rattle.tree.proofs.Theorem.{begins, keeps}
-use Rattle.counter.specs.SumTree.{levelOver, isOver, sumBelow, sumUnder, sumTree}
+use Rattle.counter.specs.SumTree.{levelOver, isOver, sumUnder, sumTree}
 use Rattle.counter.specs.View.{valueAfter, deltas, placesOf, standOf, climberOf, heldBy, view}
-use Rattle.counter.proofs.Overs.{level-is, over-by, top, ancestor-none, leaf-high}
-use Rattle.counter.proofs.Sums.{sum-same, sum-none}
+use Rattle.counter.proofs.Overs.{level-is, ancestor-none, leaf-high}
+use Rattle.counter.proofs.Sums.{sum-none}
 use Rattle.counter.proofs.TreeLaws.{sum-laws, lies-of}
 use Rattle.counter.proofs.Values.{writes-still}
-use Rattle.counter.proofs.Viewed.{Ready, stand-off, remembers-on, stays-on, other-climber, node-inner, step-is-step}
+use Rattle.counter.proofs.Viewed.{Ready, stand-off, stays-on, other-climber, node-inner, step-is-step}
 
 pub record Tied (h : ℕ) (st : State) : Type 0 where
   pub invariant : Invariant (sumTree h) (view h st)

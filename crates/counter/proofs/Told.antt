@@ -1,36 +1,36 @@
 -- What is told by the list, through every record: the plain number run down it gives the reads their answers and ends at node 1's value; who
 -- is listed, and how often; and that the list keeps the order of finished before started.
-use Prim.Native.Nat.{ℕ, zero, suc, _+_, _-_, _*_, _/_, _%_, _^_, max, _≤_, _<_}
+use Prim.Native.Nat.{ℕ, zero, suc, _+_, _-_, _%_, _^_, _≤_, _<_}
 use native.Mathlib.Omega.{arith}
-use mathlib.Core.Path.{_≡_, refl, sym, ap, ap₂, _∙_, subst, subst⁻¹, fun-ext}
-use mathlib.Core.Logic.{_⊎_, inl, inr, ⊎-elim}
+use mathlib.Core.Path.{_≡_, refl, sym, ap, _∙_, subst, subst⁻¹, fun-ext}
+use mathlib.Core.Logic.{_⊎_, ⊎-elim}
 use mathlib.Core.Bool.{Bool, true, false, not, cond, _&&_}
-use mathlib.Core.List.{List, [], _∷_, _++_, append-nil, List·Memᴰ, List·Memᴰ·head, List·Memᴰ·tail, List·Memᴰ·append-cases, List·Memᴰ·eq-of-singleton, List·Memᴰ·not-nil, Memᴰ·append-left, Memᴰ·append-right}
+use mathlib.Core.List.{List, [], _∷_, _++_, append-nil, List·Memᴰ, List·Memᴰ·head, List·Memᴰ·append-cases, List·Memᴰ·eq-of-singleton, List·Memᴰ·not-nil, Memᴰ·append-left, Memᴰ·append-right}
 use lib.ListN.{length}
 use lib.Dec.{ltb, eqb}
 use lib.Pow.{pow-mono}
 use borrow.Author.Tests.{eqb-true, eqb-false, ne-eqb, lt-ltb}
 use Rattle.arrays.proofs.Laws.{upd-same, upd-other, upd-cases}
 use Rattle.cell.specs.Cell.{readOf}
-use Rattle.meaning.specs.Tree.{processes, leafOf, root as treeRoot}
-use Rattle.meaning.specs.Access.{Access, starts, readsRoot, writesLeaf, isLeafWrite, isRootRead, isStoreAt}
-use Rattle.meaning.specs.Steps.{upd, Process, plus, effect, onward, cellAt, nextRecord, atStep, sawIt, idle as idleProcess}
+use Rattle.meaning.specs.Tree.{processes, root as treeRoot}
+use Rattle.meaning.specs.Access.{Access, starts, readsRoot, isLeafWrite, isRootRead, isStoreAt}
+use Rattle.meaning.specs.Steps.{Process, plus, effect, onward, cellAt, nextRecord, atStep, sawIt, idle as idleProcess}
 use Rattle.meaning.specs.Run.{Entry, Row, State, initial, blank, started, kindOf, newRow, start, rowAfter, takeStep}
 use Rattle.meaning.specs.TakenIn.{keep, positionOf, placed, listed, rank}
 use Rattle.meaning.specs.Plain.{numberAfter, runDown, upTo}
 use Rattle.taken.specs.CountIn.{writesBy, countIn, Waiter, waiterOf, waiters}
-use Rattle.taken.proofs.Agree.{Once, none, more, written, turn-below}
+use Rattle.taken.proofs.Agree.{Once, written, turn-below}
 use Rattle.listing.specs.Queue.{isCounted, operationsOf}
-use Rattle.listing.proofs.Laws.{Distinct, nothing, another, listed-some}
+use Rattle.listing.proofs.Laws.{Distinct, nothing, listed-some}
 use Rattle.ledger.proofs.Did.{did, did-leaf, did-cases}
-use Rattle.ledger.proofs.Turns.{Turn, root, leaf, write, link, leftward, rightward, store, Next, after-root, after-leaf, after-write, after-link, after-left, after-right, after-store, reads-the-root, root-read-adds-not}
-use Rattle.ledger.proofs.Good.{Good, Stepping, accessBy, effectBy, recordAfter, entryBy, turns, goes, root-read-ends, same-operation, same-adds, by-stepper, by-process, stepped-row, started-row, good-start, false-true}
+use Rattle.ledger.proofs.Turns.{Turn, root, leaf, write, link, leftward, rightward, store, Next, after-root, after-leaf, after-write, reads-the-root, root-read-adds-not}
+use Rattle.ledger.proofs.Good.{Good, Stepping, accessBy, recordAfter, entryBy, turns, goes, root-read-ends, same-operation, by-stepper, by-process, stepped-row, good-start, false-true}
 use Rattle.ledger.proofs.Kept.{mem-keep, keep-none, mem-operations, position-first, position-second}
 use Rattle.ledger.proofs.Waiters.{rootCount, newly, placed-is, NewOrOld, old, new, new-or-old, waiters-write, waiter-writes, count-grows}
 use Rattle.ledger.proofs.Listing.{placed-read, still-waits}
 use Rattle.ledger.proofs.Placed.{once-on, placed-new, placed-apart}
-use Rattle.ledger.proofs.StepCount.{StepCount, kind-two, kind-three}
-use Rattle.counter.specs.SumTree.{levelOver, isOver, sumBelow, sumUnder, sumTree}
+use Rattle.ledger.proofs.StepCount.{StepCount, kind-two}
+use Rattle.counter.specs.SumTree.{levelOver, sumBelow, sumUnder, sumTree}
 use Rattle.counter.specs.View.{valueAfter, deltas, placesOf, standOf, climberOf, view}
 use Rattle.counter.proofs.Overs.{level-is, over-by, top}
 use Rattle.counter.proofs.Sums.{sum-same, sum-none}

@@ -2,39 +2,38 @@
 use Prim.Native.Nat.{ℕ, zero, suc, _+_, _-_, _*_, _/_, _%_, _^_, max, _≤_, _<_}
 use native.Mathlib.Omega.{arith}
 use mathlib.Core.Path.{_≡_, refl, sym, ap, ap₂, _∙_, subst, subst⁻¹, fun-ext}
-use mathlib.Core.Logic.{_⊎_, inl, inr, ⊎-elim}
+use mathlib.Core.Logic.{_⊎_, inl, inr}
 use mathlib.Core.Bool.{Bool, true, false, not, cond, _&&_}
-use mathlib.Core.List.{List, [], _∷_}
-use lib.ListN.{length}
-use lib.Dec.{leb, ltb, eqb}
+use mathlib.Core.List.{List, _∷_}
+use lib.Dec.{leb, eqb}
 use lib.Pow.{pow-mono, pow-pos}
-use borrow.Author.Tests.{le-leb, lt-leb, leb-true, leb-false, ltb-true, ltb-false, eq-eqb, ne-eqb, eqb-true, eqb-false}
-use Rattle.sets.specs.Processes.{nobody, with}
+use borrow.Author.Tests.{le-leb, lt-leb, leb-true, leb-false, eq-eqb, ne-eqb, eqb-true, eqb-false}
+use Rattle.sets.specs.Processes.{nobody}
 use Rattle.sets.proofs.Laws.{with-same, with-other}
 use Rattle.arrays.proofs.Laws.{upd-same, upd-other, upd-cases}
 use Rattle.cell.specs.Cell.{State as Cell, readOf, loadLinked, succeeds, storeConditional}
 use Rattle.cell.proofs.Laws.{sc-succeeds, sc-fails}
 use Rattle.meaning.specs.Tree.{processes, leafOf, left, right, parent, ancestor, root as treeRoot}
-use Rattle.meaning.specs.Access.{Access, starts, readsRoot, readsLeaf, writesLeaf, links, readsLeft, readsRight, stores, Attempt, isLeafWrite, isReadOf, isStoreAt}
-use Rattle.meaning.specs.Steps.{upd, Process, plus, effect, onward, cellAt, withCell, withValue, accessOf, nextRecord, atStep, sawIt, sawLeft, sawRight, idle as idleProcess}
-use Rattle.meaning.specs.Run.{Entry, Row, State, initial, blank, started, newRow, start, rowAfter, takeStep}
+use Rattle.meaning.specs.Access.{Access, writesLeaf, links, readsLeft, readsRight, stores, isLeafWrite, isReadOf, isStoreAt}
+use Rattle.meaning.specs.Steps.{Process, plus, effect, onward, cellAt, withCell, withValue, nextRecord, atStep, sawLeft, sawRight}
+use Rattle.meaning.specs.Run.{Entry, State, rowAfter, takeStep}
 use Rattle.meaning.specs.TakenIn.{beforeRead}
-use Rattle.taken.specs.CountIn.{writesBy, countIn, countStore}
+use Rattle.taken.specs.CountIn.{writesBy, countIn}
 use Rattle.machine.specs.Does.{attemptOf}
 use Rattle.machine.specs.Nexts.{CanTry}
 use Rattle.machine.proofs.Laws.{last-addition}
-use Rattle.ledger.proofs.Did.{did, did-cases}
+use Rattle.ledger.proofs.Did.{did}
 use Rattle.ledger.proofs.Turns.{nodeAt, Turn, root, leaf, write, link, leftward, rightward, store, Next, after-root, after-leaf, after-write, after-link, after-left, after-right, after-store}
-use Rattle.ledger.proofs.Good.{Good, Stepping, accessBy, effectBy, recordAfter, entryBy, turns, goes, same-job, same-adds, same-operation, in-range, by-stepper, by-process, stepped-row, started-row, other, false-true}
+use Rattle.ledger.proofs.Good.{Stepping, accessBy, effectBy, recordAfter, entryBy, turns, goes, same-adds, in-range, stepped-row, false-true}
 use Rattle.ledger.proofs.Counted.{count-still, count-stored, count-unstored, count-unwritten, before-other, before-not, before-it}
 use Rattle.ledger.proofs.Under.{node-high, node-low}
 use Rattle.ledger.proofs.Waiters.{count-cap}
 use Rattle.ledger.proofs.StepCount.{After, again, up, done, sc-leads}
-use Rattle.tree.specs.Tree.{Tree, Laws}
-use Rattle.tree.specs.Machine.{Memory, Stand, Climber, Machine, trying, before, Remembers, Elsewhere, Stays, Rests, Writes, Links, Got, Reads, Onward, Stores, Failed, Fails, Move, Step}
+use Rattle.tree.specs.Tree.{Tree}
+use Rattle.tree.specs.Machine.{Memory, Climber, trying, before, Remembers, Stays, Got, Onward, Failed, Move, Step}
 use Rattle.counter.specs.SumTree.{levelOver, isOver, sumTree}
 use Rattle.counter.specs.View.{valueAfter, deltas, placesOf, standOf, climberOf, heldBy, view}
-use Rattle.counter.proofs.Overs.{Above, above, over-by, one-level, level-is, top, leaf-high, inner-high, ancestor-none, ancestor-more}
+use Rattle.counter.proofs.Overs.{Above, above, one-level, level-is, top, ancestor-none, ancestor-more}
 use Rattle.counter.proofs.TreeLaws.{IsInner, lies-of, child-low, on-left, on-right}
 use Rattle.counter.proofs.Values.{writes-still, writes-other, writes-more, value-same, value-still, value-next}
 

@@ -1,7 +1,7 @@
 -- The state after some records as a machine that climbs the counter's tree: its counts, targets and what its processes hold are told by the
 -- history, where its processes stand by their step numbers.
-use Prim.Native.Nat.{ℕ, zero, suc, _+_, _-_, _/_, _%_, _≤_}
-use mathlib.Core.Bool.{Bool, not, cond, _&&_}
+use Prim.Native.Nat.{ℕ, suc, _+_, _-_, _/_, _%_}
+use mathlib.Core.Bool.{not, cond, _&&_}
 use mathlib.Core.List.{List, [], _∷_}
 use lib.Dec.{leb, ltb, eqb}
 use Rattle.meaning.specs.Tree.{leafOf, ancestor}

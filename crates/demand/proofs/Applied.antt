@@ -1,11 +1,9 @@
 -- The theorem applied to A to F: its hypothesis is met by each, and its right sides compute to the documented answers and counters, so that
 -- the reported ones are these.
 use Prim.Native.Nat.{ℕ, zero, suc}
-use native.Mathlib.Omega.{arith}
 use mathlib.Core.Path.{_≡_, refl, sym, ap, ap₂, _∙_}
 use mathlib.Core.Bool.{Bool, true, false, cond, _&&_}
 use mathlib.Core.List.{List, [], _∷_, _++_, map}
-use lib.ListN.{drop}
 use lib.Dec.{eqb}
 use borrow.Author.Tests.{eqb-true}
 use Rattle.sets.specs.Processes.{nobody, with, countBelow}
@@ -17,13 +15,12 @@ use Rattle.meaning.specs.Layout.{version, follows, height, headRefusal, follow,
 use Rattle.meaning.specs.Tree.{processes, leafOf, left, right, parent, ancestor, root}
 use Rattle.meaning.specs.Access.{attempt, climb, additionSteps, readSteps, isRootRead, isLeafWrite, isReadOf, isStoreAt, isSecondLink}
 use Rattle.meaning.specs.Steps.{upd, cellAt, withCell, withValue, idle, stepsOf, accessOf, plus, onward, passesBy, sawIt, sawLeft, sawRight, atStep, effect, within, nextRecord}
-use Rattle.meaning.specs.Run.{Row, State, Outcome, refused, accepted, blank, initial, busy, started, kindOf, newRow, start, rowAfter, takeStep, processOf, isStart, recordRefusal, takeEvent, unless, run, outcome}
+use Rattle.meaning.specs.Run.{State, Outcome, refused, accepted, blank, initial, busy, started, kindOf, newRow, start, rowAfter, takeStep, processOf, isStart, recordRefusal, takeEvent, unless, run, outcome}
 use Rattle.meaning.specs.TakenIn.{inLeaf, beforeRead, inStore, isInNode, keep, leafWrites, inRoot, placed, listed}
 use Rattle.meaning.specs.Plain.{numberAfter, runDown, upTo}
 use Rattle.meaning.specs.Starred.{join, times, step, reads, adds, recording, reportOf, row, refusal, acceptance, cases}
 use Rattle.ledger.proofs.Good.{false-true}
 use Rattle.counter.proofs.Overs.{and-both}
-use Rattle.demand.specs.Demand3.{Demand3}
 use Rattle.demand.specs.Applied.{recordings, stateOf, isAccepted, allAccepted, isFinishedRead, ofReads, Numbers, reported, given, documented}
 use Rattle.demand.proofs.Holds.{demand-3}
 

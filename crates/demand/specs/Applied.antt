@@ -10,7 +10,7 @@ use Rattle.meaning.specs.Tree.{root}
 use Rattle.meaning.specs.Run.{Row, State, initial, Outcome, refused, accepted, outcome}
 use Rattle.meaning.specs.TakenIn.{listed}
 use Rattle.meaning.specs.Plain.{runDown, upTo}
-use Rattle.meaning.specs.Starred.{Case, cases}
+use Rattle.meaning.specs.Starred.{cases}
 
 -- A to F are the last six of the starred inputs
 unfoldable pub recordings : List (List ℕ)

@@ -1,30 +1,28 @@
 -- The counts that the replay keeps are the counts by the history, also for what a process has read and not yet stored.
-use Prim.Native.Nat.{ℕ, zero, suc, _+_, _-_, _*_, _/_, _%_, _^_, max, _≤_, _<_}
+use Prim.Native.Nat.{ℕ, zero, suc, _+_, _-_, _/_, _%_, _^_, max, _≤_, _<_}
 use native.Mathlib.Nat.{add-zero}
 use native.Mathlib.Omega.{arith}
 use mathlib.Core.Path.{_≡_, refl, sym, ap, ap₂, _∙_, subst}
-use mathlib.Core.Logic.{_⊎_, inl, inr, ⊎-elim}
+use mathlib.Core.Logic.{_⊎_, ⊎-elim}
 use mathlib.Core.Bool.{Bool, true, false, cond, _&&_}
 use mathlib.Core.List.{List, [], _∷_}
-use lib.Dec.{eqb, leb}
+use lib.Dec.{eqb}
 use borrow.Author.Tests.{eq-eqb, ne-eqb, eqb-true, eqb-false, le-leb}
 use Rattle.arrays.specs.Arrays.{between}
 use Rattle.arrays.proofs.Laws.{upd-same, upd-other, upd-cases}
-use Rattle.cell.specs.Cell.{succeeds}
 use Rattle.meaning.specs.Tree.{leafOf, left, right, parent, ancestor}
-use Rattle.meaning.specs.Access.{Access, starts, readsRoot, readsLeaf, writesLeaf, links, readsLeft, readsRight, stores, Attempt, isLeafWrite, isReadOf, isStoreAt}
+use Rattle.meaning.specs.Access.{Access, stores, Attempt, isLeafWrite, isReadOf, isStoreAt}
 use Rattle.meaning.specs.Steps.{upd, Process, effect, onward, idle as idleProcess}
 use Rattle.meaning.specs.Run.{Entry, State, initial, started, start, takeStep}
 use Rattle.meaning.specs.TakenIn.{beforeRead}
 use Rattle.taken.specs.CountIn.{writesBy, countStore, countIn}
 use Rattle.machine.specs.Does.{attemptOf}
-use Rattle.machine.specs.Nexts.{CanTry}
 use Rattle.counts.specs.Counts.{Counts, countsAfter, attempted, wrote, readOver, storedOver, levelAt, positionAt, firstUnder}
 use Rattle.counts.proofs.Laws.{between-in, between-out}
 use Rattle.ledger.specs.Kept.{countsThen}
-use Rattle.ledger.proofs.Turns.{nodeAt, Turn, root, leaf, write, link, leftward, rightward, store, Next, after-root, after-leaf, after-write, after-link, after-left, after-right, after-store, AtLink, idle, linking}
+use Rattle.ledger.proofs.Turns.{Turn, root, leaf, write, link, leftward, rightward, store, Next, after-root, after-leaf, after-write, after-link, after-left, after-right, after-store, AtLink, idle, linking}
 use Rattle.ledger.proofs.Good.{Good, Stepping, accessBy, effectBy, recordAfter, entryBy, turns, goes, by-stepper, by-process, false-true}
-use Rattle.ledger.proofs.Under.{same-level, Within, under-left, under-right, left-under, right-under, under-node, node-under, left-or-right, left-not-right}
+use Rattle.ledger.proofs.Under.{same-level, Within, under-left, under-right, left-under, right-under, under-node, node-under, left-or-right}
 
 -- ---- one more entry
 

@@ -1,28 +1,25 @@
 -- What holds of the state after any accepted records: who is busy with what, that operations are told apart, and that no operation makes
 -- its one leaf write or its one root read twice.
-use Prim.Native.Nat.{ℕ, zero, suc, _+_, _*_, _^_, _≤_, _<_}
+use Prim.Native.Nat.{ℕ, suc, _^_, _≤_, _<_}
 use native.Mathlib.Omega.{arith}
 use mathlib.Core.Path.{_≡_, refl, sym, ap, _∙_, subst}
-use mathlib.Core.Logic.{_⊎_, inl, inr, ⊎-elim}
+use mathlib.Core.Logic.{_⊎_, ⊎-elim}
 use mathlib.Core.Bool.{Bool, true, false, cond}
-use mathlib.Core.List.{List, [], _∷_}
+use mathlib.Core.List.{List, _∷_}
 use lib.ListN.{length}
-use lib.Dec.{eqb}
 use lib.Pow.{pow-mono}
 use borrow.Author.Tests.{ne-eqb}
-use Rattle.sets.specs.Processes.{countBelow}
 use Rattle.sets.proofs.Laws.{count-le}
-use Rattle.arrays.proofs.Laws.{upd-cases, upd-same, upd-other}
+use Rattle.arrays.proofs.Laws.{upd-cases}
 use Rattle.meaning.specs.Tree.{processes}
-use Rattle.meaning.specs.Access.{Access, starts, readsRoot, readsLeaf, writesLeaf, links, readsLeft, readsRight, stores, Attempt, first, second, isLeafWrite, isRootRead, isSecondLink}
-use Rattle.meaning.specs.Steps.{upd, Memory, Process, idle as idleProcess, Effect, effect, accessOf, nextRecord, atStep}
+use Rattle.meaning.specs.Access.{Access, starts, isLeafWrite, isRootRead, isSecondLink}
+use Rattle.meaning.specs.Steps.{Process, idle as idleProcess, Effect, effect, accessOf, nextRecord, atStep}
 use Rattle.meaning.specs.Run.{Entry, Row, State, blank, initial, busy, started, kindOf, newRow, start, rowAfter, takeStep}
-use Rattle.meaning.specs.TakenIn.{inLeaf}
 use Rattle.taken.proofs.Agree.{Once, none, more}
 use Rattle.rows.proofs.Laws.{RowFits}
 use Rattle.machine.specs.Nexts.{lastStep}
 use Rattle.machine.proofs.Laws.{job, effect-keeps, steps-long, within-le}
-use Rattle.ledger.proofs.Turns.{CanTurn, Turn, root, leaf, write, link, leftward, rightward, store, turn, Next, after-root, after-leaf, after-write, after-link, after-left, after-right, after-store, next, AtLink, idle, linking}
+use Rattle.ledger.proofs.Turns.{Turn, root, leaf, write, link, leftward, rightward, store, turn, Next, after-root, after-leaf, after-write, after-link, after-left, after-right, after-store, next, idle, linking}
 use Rattle.ledger.proofs.Did.{did, did-leaf, did-other, did-not, did-cases}
 
 pub false-true : false ≡ true → ⊥

@@ -1,36 +1,35 @@
 -- What the replay keeps is what the definitions say: the counts, the queue, the number of those listed and the rows, through every record.
-use Prim.Native.Nat.{ℕ, zero, suc, _+_, _-_, _*_, _/_, _%_, _^_, max, _≤_, _<_}
+use Prim.Native.Nat.{ℕ, zero, suc, _+_, _-_, _*_, _/_, _%_, _^_, max, _<_}
 use native.Mathlib.Nat.{add-zero}
 use native.Mathlib.Omega.{arith}
 use mathlib.Core.Path.{_≡_, refl, sym, ap, ap₂, _∙_, subst}
-use mathlib.Core.Logic.{_⊎_, inl, inr, ⊎-elim}
+use mathlib.Core.Logic.{_⊎_, ⊎-elim}
 use mathlib.Core.Bool.{Bool, true, false, not, cond, _&&_}
-use mathlib.Core.List.{List, [], _∷_, _++_, append-nil, List·Memᴰ, List·Memᴰ·head, List·Memᴰ·append-cases, List·Memᴰ·eq-of-singleton, List·Memᴰ·not-nil}
+use mathlib.Core.List.{List, [], _∷_, _++_, append-nil, List·Memᴰ, List·Memᴰ·append-cases, List·Memᴰ·eq-of-singleton, List·Memᴰ·not-nil}
 use lib.ListN.{length, length-map}
 use lib.Dec.{eqb, ltb, leb}
-use borrow.Author.Tests.{eq-eqb, ne-eqb, eqb-true, eqb-false, ltb-true, ltb-false, le-ltb, lt-leb, le-leb, leb-false}
+use borrow.Author.Tests.{eq-eqb, ne-eqb, ltb-true, ltb-false, le-ltb, le-leb, leb-false}
 use Rattle.meaning.specs.Tree.{processes, leafOf, ancestor}
-use Rattle.meaning.specs.Access.{Access, starts, readsRoot, readsLeaf, writesLeaf, links, readsLeft, readsRight, stores, Attempt, first, second, isLeafWrite, isRootRead, isSecondLink, isStoreAt}
+use Rattle.meaning.specs.Access.{Access, starts, readsRoot, readsLeaf, writesLeaf, links, readsLeft, readsRight, stores, first, second, isLeafWrite, isRootRead, isSecondLink, isStoreAt}
 use Rattle.meaning.specs.Steps.{upd, Memory, Process, effect, onward}
 use Rattle.sets.specs.Processes.{countBelow}
 use Rattle.meaning.specs.Run.{Entry, State, initial, busy, kindOf, newRow, start, takeStep, rowAfter}
-use Rattle.meaning.specs.TakenIn.{inLeaf, beforeRead, keep, placed, listed, rank}
+use Rattle.meaning.specs.TakenIn.{beforeRead, keep, placed, listed, rank}
 use Rattle.taken.specs.CountIn.{writesBy, countIn, Waiter, waiterOf, waiters}
 use Rattle.taken.proofs.Agree.{Once, written}
 use Rattle.machine.specs.Does.{attemptOf}
-use Rattle.machine.specs.Nexts.{CanTry}
 use Rattle.counts.specs.Counts.{Counts, countsAfter}
 use Rattle.rows.specs.Rows.{withRow, steppedNumbers}
 use Rattle.listing.specs.Queue.{isCounted, operationsOf, ranked}
 use Rattle.listing.proofs.Laws.{keep-append, Distinct, nothing, another}
 use Rattle.ledger.specs.Kept.{Kept, countsThen, atRoot, secondLink, queueThen, listThen, waitThen, rowThen, readStep, additionStep, keptStep, keptStart}
-use Rattle.ledger.proofs.Turns.{nodeAt, Turn, root, leaf, write, link, leftward, rightward, store, Next, reads-the-root, reads-no-root}
-use Rattle.ledger.proofs.Did.{did, did-leaf, did-not}
-use Rattle.ledger.proofs.Good.{Good, Stepping, accessBy, effectBy, recordAfter, entryBy, turns, goes, good-step, good-start, false-true}
+use Rattle.ledger.proofs.Turns.{nodeAt, Turn, root, leaf, write, link, leftward, rightward, store, reads-the-root, reads-no-root}
+use Rattle.ledger.proofs.Did.{did-leaf, did-not}
+use Rattle.ledger.proofs.Good.{Good, Stepping, accessBy, effectBy, recordAfter, entryBy, turns, good-step, good-start, false-true}
 use Rattle.ledger.proofs.Under.{same-level}
 use Rattle.ledger.proofs.Counted.{Counted, counted-step, counted-start, counted-initial, count-still, count-unstored, count-stored, then-read}
 use Rattle.ledger.proofs.Kept.{mem-keep, keep-same, mem-operations, absent}
-use Rattle.ledger.proofs.Waiters.{NewOrOld, old, new, new-or-old, rootCount, waiter-writes, same-waiter, distinct-waiters, count-cap, newly, placed-is}
+use Rattle.ledger.proofs.Waiters.{NewOrOld, old, new, new-or-old, rootCount, waiter-writes, distinct-waiters, count-cap, newly, placed-is}
 use Rattle.ledger.proofs.Listing.{IsListed, read, taken, who-is-listed, placed-read, waitingOf, placed-queue, waiting-still, waiting-write, none-counted, all-wait, length-listed}
 use Rattle.ledger.proofs.Placed.{unlisted, read-unlisted}
 use Rattle.ledger.proofs.Numbers.{Numbers, numbers-listed, numbers-stepped, numbers-started}

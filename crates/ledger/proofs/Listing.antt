@@ -1,24 +1,22 @@
 -- The queue, the count of those listed and the ranks in the rows are the list's, by the history.
-use Prim.Native.Nat.{ℕ, zero, suc, _+_, _-_, _*_, _/_, _%_, _^_, _≤_, _<_}
+use Prim.Native.Nat.{ℕ, _+_, _-_, _*_}
 use native.Mathlib.Omega.{arith}
-use mathlib.Core.Path.{_≡_, refl, sym, ap, ap₂, _∙_, subst}
-use mathlib.Core.Logic.{_⊎_, inl, inr, ⊎-elim}
-use mathlib.Core.Bool.{Bool, true, false, not, cond, _&&_, _||_}
-use mathlib.Core.List.{List, [], _∷_, _++_, append-nil, List·Memᴰ, List·Memᴰ·append-cases, List·Memᴰ·eq-of-singleton, List·Memᴰ·not-nil, Memᴰ·append-left}
+use mathlib.Core.Path.{_≡_, refl, sym, ap, _∙_, subst}
+use mathlib.Core.Logic.{_⊎_, ⊎-elim}
+use mathlib.Core.Bool.{Bool, true, false, not, _&&_}
+use mathlib.Core.List.{List, [], _∷_, _++_, List·Memᴰ, List·Memᴰ·append-cases, List·Memᴰ·eq-of-singleton, List·Memᴰ·not-nil, Memᴰ·append-left}
 use lib.ListN.{length, length-append}
-use lib.Dec.{eqb, ltb}
-use borrow.Author.Tests.{eq-eqb, ltb-true, lt-ltb, le-ltb}
+use borrow.Author.Tests.{ltb-true, lt-ltb}
 use Rattle.meaning.specs.Access.{isLeafWrite, isRootRead}
 use Rattle.meaning.specs.Run.{Entry}
 use Rattle.meaning.specs.TakenIn.{keep, placed, listed, positionOf, rank}
-use Rattle.taken.specs.CountIn.{writesBy, countIn, Waiter, waiterOf, waiters}
-use Rattle.taken.proofs.Agree.{Once, none, more}
+use Rattle.taken.specs.CountIn.{Waiter, waiterOf, waiters}
+use Rattle.taken.proofs.Agree.{Once, more}
 use Rattle.listing.specs.Queue.{isCounted, operationsOf, ranked}
-use Rattle.listing.proofs.Laws.{keep-append, Distinct, nothing, another, listed-some, ranked-absent, ranked-at}
-use Rattle.ledger.proofs.Did.{did, did-cases, did-now, did-on}
-use Rattle.ledger.proofs.Good.{false-true}
-use Rattle.ledger.proofs.Kept.{mem-keep, keep-same, keep-keep, keep-all, keep-none, mem-operations, found, absent, position-first, position-second, position-neither}
-use Rattle.ledger.proofs.Waiters.{rootCount, newly, placed-is, waiters-write, waiters-still, same-waiter, distinct-waiters, count-cap, count-grows}
+use Rattle.listing.proofs.Laws.{keep-append, Distinct, listed-some, ranked-absent, ranked-at}
+use Rattle.ledger.proofs.Did.{did, did-now, did-on}
+use Rattle.ledger.proofs.Kept.{mem-keep, keep-same, keep-keep, keep-all, keep-none, mem-operations, found, position-first, position-second, position-neither}
+use Rattle.ledger.proofs.Waiters.{rootCount, newly, placed-is, waiters-write, waiters-still, count-grows}
 
 -- a waiter that is counted stays counted
 counted-on : (h : ℕ) (e : Entry) (es : List Entry) (w : Waiter) → isCounted (rootCount h es) w ≡ true → isCounted (rootCount h (e ∷ es)) w ≡ true

@@ -1,15 +1,14 @@
 -- The rows' numbers after a listing and after a step.
-use Prim.Native.Nat.{ℕ, zero, suc, _+_, _*_, _/_, _%_, _^_, _≤_, _<_}
+use Prim.Native.Nat.{ℕ, zero, suc, _+_, _*_, _^_, _<_}
 use native.Mathlib.Nat.{add-zero}
 use native.Mathlib.Omega.{arith}
-use mathlib.Core.Path.{_≡_, refl, sym, ap, ap₂, _∙_, subst}
-use mathlib.Core.Logic.{_⊎_, inl, inr, ⊎-elim}
+use mathlib.Core.Path.{_≡_, refl, sym, ap, ap₂, _∙_}
 use mathlib.Core.Bool.{Bool, true, false, cond}
 use mathlib.Core.List.{List, [], _∷_, List·Memᴰ}
 use lib.ListN.{length, getD}
 use lib.Dec.{eqb}
 use borrow.Author.Tests.{eqb-true, eqb-false}
-use Rattle.arrays.proofs.Laws.{upd-cases, upd-same, upd-other}
+use Rattle.arrays.proofs.Laws.{upd-same, upd-other}
 use Rattle.meaning.specs.Access.{Access, isRootRead, isSecondLink}
 use Rattle.meaning.specs.Steps.{upd, Process}
 use Rattle.meaning.specs.Run.{Entry, Row, rowAfter}

@@ -1,20 +1,18 @@
 -- What a step adds to the list is new to it, and told apart.
-use Prim.Native.Nat.{ℕ, _≤_, _<_}
-use native.Mathlib.Omega.{arith}
+use Prim.Native.Nat.{ℕ}
 use mathlib.Core.Path.{_≡_, refl, sym, ap, _∙_, subst}
-use mathlib.Core.Logic.{_⊎_, inl, inr, ⊎-elim}
-use mathlib.Core.Bool.{Bool, true, false, not, _&&_}
-use mathlib.Core.List.{List, [], _∷_, List·Memᴰ, List·Memᴰ·eq-of-singleton, List·Memᴰ·not-nil}
-use Rattle.meaning.specs.Access.{Access, isRootRead}
-use Rattle.meaning.specs.Run.{Entry, State, takeStep}
+use mathlib.Core.Bool.{Bool, true, false, not}
+use mathlib.Core.List.{[], _∷_, List·Memᴰ, List·Memᴰ·eq-of-singleton, List·Memᴰ·not-nil}
+use Rattle.meaning.specs.Access.{isRootRead}
+use Rattle.meaning.specs.Run.{State, takeStep}
 use Rattle.meaning.specs.TakenIn.{inLeaf, keep, placed, listed}
 use Rattle.taken.specs.CountIn.{Waiter, waiters}
 use Rattle.taken.proofs.Agree.{Once, written}
-use Rattle.listing.specs.Queue.{isCounted, operationsOf}
+use Rattle.listing.specs.Queue.{isCounted}
 use Rattle.listing.proofs.Laws.{Distinct, nothing, another}
 use Rattle.ledger.proofs.Did.{did, did-leaf}
 use Rattle.ledger.proofs.Turns.{root-read-adds-not}
-use Rattle.ledger.proofs.Good.{Good, Stepping, accessBy, entryBy, turns, good-step, false-true}
+use Rattle.ledger.proofs.Good.{Stepping, accessBy, entryBy, turns, good-step, false-true}
 use Rattle.ledger.proofs.Kept.{mem-keep, mem-operations, absent}
 use Rattle.ledger.proofs.Waiters.{rootCount, newly, placed-is, waiter-writes, same-waiter, distinct-waiters}
 use Rattle.ledger.proofs.Listing.{IsListed, read, taken, who-is-listed, placed-read, waitingOf, placed-queue}

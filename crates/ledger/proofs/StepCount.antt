@@ -5,21 +5,19 @@ use native.Mathlib.Omega.{arith}
 use mathlib.Core.Path.{_≡_, refl, sym, ap, ap₂, _∙_, subst, subst₂}
 use mathlib.Core.Logic.{_⊎_, inl, inr, ⊎-elim}
 use mathlib.Core.Bool.{Bool, true, false, cond}
-use mathlib.Core.List.{List}
 use lib.ListN.{length}
 use lib.Dec.{leb, ltb, eqb}
-use borrow.Author.Tests.{leb-true, leb-false, ltb-true, ltb-false, eqb-true, eq-eqb, ne-eqb}
+use borrow.Author.Tests.{leb-true, leb-false, ltb-true, ltb-false, eqb-true}
 use Rattle.arrays.proofs.Laws.{upd-other}
 use Rattle.cell.specs.Cell.{succeeds}
-use Rattle.meaning.specs.Tree.{leafOf}
-use Rattle.meaning.specs.Access.{Access, starts, readsRoot, readsLeaf, writesLeaf, links, readsLeft, readsRight, stores, Attempt, first, second, attempt, isSecondLink}
-use Rattle.meaning.specs.Steps.{idle as idleProcess, cellAt, Memory, Process, effect, onward, passesBy, within, accessOf, nextRecord, atStep}
+use Rattle.meaning.specs.Access.{Access, links, stores, first, second, attempt, isSecondLink}
+use Rattle.meaning.specs.Steps.{idle as idleProcess, cellAt, effect, passesBy, within}
 use Rattle.meaning.specs.Run.{Row, State, blank, initial, started, kindOf, newRow, start, rowAfter, takeStep}
 use Rattle.machine.specs.Does.{attemptOf}
-use Rattle.machine.specs.Nexts.{lastStep, CanTry}
-use Rattle.machine.proofs.Laws.{last-addition, last-read, steps-long}
+use Rattle.machine.specs.Nexts.{CanTry}
+use Rattle.machine.proofs.Laws.{last-addition}
 use Rattle.ledger.proofs.Turns.{nodeAt, Turn, root, leaf, write, link, leftward, rightward, store, Next, after-root, after-leaf, after-write, after-link, after-left, after-right, after-store, step-is}
-use Rattle.ledger.proofs.Good.{Good, Stepping, accessBy, effectBy, recordAfter, turns, goes, same-operation, same-adds, in-range, by-stepper, by-process, stepped-row, started-row, other, false-true}
+use Rattle.ledger.proofs.Good.{Good, Stepping, accessBy, recordAfter, turns, goes, same-operation, same-adds, in-range, by-stepper, by-process, stepped-row, started-row, other, false-true}
 
 -- 1 where the second attempt's LL has been taken at position i of the eight steps at a node
 abbrev oneIf : Bool → ℕ

@@ -1,21 +1,19 @@
 -- Listed and waiting operations together are those that have written their leaf or read the root, so that there are at most as many as have
 -- started: the queue and the ranks have room.
-use Prim.Native.Nat.{ℕ, zero, suc, _+_, _≤_, _<_}
+use Prim.Native.Nat.{ℕ, _+_, _≤_}
 use native.Mathlib.Nat.{add-zero}
 use native.Mathlib.Omega.{arith}
-use mathlib.Core.Path.{_≡_, refl, sym, ap, ap₂, _∙_, subst}
-use mathlib.Core.Logic.{_⊎_, inl, inr, ⊎-elim}
-use mathlib.Core.Bool.{Bool, true, false, not, cond, _&&_, _||_}
-use mathlib.Core.List.{List, [], _∷_, _++_}
+use mathlib.Core.Path.{_≡_, refl, sym, ap, ap₂, _∙_}
+use mathlib.Core.Bool.{Bool, true, false, cond, _&&_, _||_}
+use mathlib.Core.List.{List, [], _∷_}
 use lib.ListN.{length, length-append}
 use lib.Dec.{eqb}
 use borrow.Author.Tests.{eq-eqb}
 use Rattle.sets.specs.Processes.{countBelow}
 use Rattle.sets.proofs.Laws.{count-differ, count-same, count-le}
-use Rattle.meaning.specs.Access.{Access, starts, readsRoot, isLeafWrite, isRootRead}
+use Rattle.meaning.specs.Access.{Access, readsRoot, isLeafWrite, isRootRead}
 use Rattle.meaning.specs.Steps.{Process}
 use Rattle.meaning.specs.Run.{Entry, State, initial, start, takeStep}
-use Rattle.meaning.specs.TakenIn.{keep}
 use Rattle.taken.specs.CountIn.{Waiter}
 use Rattle.counts.specs.Counts.{Counts, countsAfter}
 use Rattle.listing.specs.Queue.{isCounted}

@@ -1,22 +1,19 @@
 -- A step by cases: which access a step number is, and the step number after it.
-use Prim.Native.Nat.{ℕ, zero, suc, _+_, _-_, _*_, _/_, _%_, _^_, _≤_, _<_}
+use Prim.Native.Nat.{ℕ, zero, suc, _+_, _-_, _/_, _%_, _^_, _≤_, _<_}
 use native.Mathlib.Omega.{arith}
 use mathlib.Core.Path.{_≡_, refl, sym, ap, _∙_, subst, subst⁻¹}
 use mathlib.Core.Logic.{_⊎_, inl, inr, ⊎-elim}
 use mathlib.Core.Bool.{Bool, true, false, cond}
-use mathlib.Core.List.{List}
-use lib.ListN.{length}
 use lib.Dec.{ltb}
 use lib.Pow.{pow-mono}
-use borrow.Author.Tests.{ltb-true, ltb-false}
 use Rattle.cell.specs.Cell.{succeeds}
-use Rattle.meaning.specs.Tree.{processes, leafOf, left, right, ancestor}
-use Rattle.meaning.specs.Access.{Access, starts, readsRoot, readsLeaf, writesLeaf, links, readsLeft, readsRight, stores, Attempt, first, second, attempt, isRootRead}
-use Rattle.meaning.specs.Steps.{cellAt, Memory, Process, Effect, effect, onward, passesBy, sawIt, sawLeft, sawRight, atStep, within, accessOf, nextRecord, stepsOf}
+use Rattle.meaning.specs.Tree.{processes, leafOf, ancestor}
+use Rattle.meaning.specs.Access.{Access, readsRoot, readsLeaf, writesLeaf, links, readsLeft, readsRight, stores, Attempt, first, second, attempt, isRootRead}
+use Rattle.meaning.specs.Steps.{cellAt, Memory, Process, effect, onward, passesBy, atStep, within, accessOf, nextRecord}
 use Rattle.machine.specs.Does.{attemptOf}
 use Rattle.machine.specs.Nexts.{lastStep, CanTry, NodeOf}
 use Rattle.machine.proofs.Numbered.{node-of}
-use Rattle.machine.proofs.Laws.{root-read, leaf-read, leaf-write, link-at, left-at, right-at, store-at, last-addition, last-read, steps-long, within-in, within-end, within-le}
+use Rattle.machine.proofs.Laws.{root-read, leaf-read, leaf-write, link-at, left-at, right-at, store-at, last-addition, last-read, steps-long, within-in, within-end}
 
 -- heights 1 to 6, a process of that tree, and a step of its operation
 pub record CanTurn (h p : ℕ) (r : Process) : Type 0 where

@@ -1,9 +1,9 @@
 -- Which leaves lie under a node: those of the processes whose numbers have the same quotient by the node's width.
 use Prim.Native.Nat.{ℕ, zero, suc, _+_, _-_, _*_, _/_, _%_, _^_, _≤_, _<_}
-use native.Mathlib.Nat.{add-mul-div-right, div-mul-le-self, lt-div-mul-add, div-eq-of-lt-le, pow-suc, suc-mul, add-comm, mul-comm, mul-assoc}
-use native.Mathlib.Numerals.{add-one, one-add}
+use native.Mathlib.Nat.{add-mul-div-right, div-mul-le-self, lt-div-mul-add, div-eq-of-lt-le, pow-suc, suc-mul, add-comm, mul-assoc}
+use native.Mathlib.Numerals.{add-one}
 use native.Mathlib.Omega.{arith}
-use mathlib.Core.Path.{_≡_, refl, sym, ap, _∙_, subst}
+use mathlib.Core.Path.{_≡_, refl, ap, _∙_, subst}
 use mathlib.Core.Logic.{_⊎_, inl, inr}
 use mathlib.Core.Bool.{Bool, true, false}
 use lib.Dec.{ltb, eqb}

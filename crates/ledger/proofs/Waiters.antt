@@ -1,22 +1,22 @@
 -- The leaf writes with their turns: each is its operation's one write, and whether it is in node 1 is told by the count there. So what an
 -- entry adds to the list are the waiters that are counted after it and were not before.
-use Prim.Native.Nat.{ℕ, zero, suc, _+_, max, _≤_, _<_}
+use Prim.Native.Nat.{ℕ, zero, suc, _+_, max, _≤_}
 use native.Mathlib.Omega.{arith}
 use mathlib.Core.Path.{_≡_, refl, sym, ap, ap₂, _∙_, subst}
-use mathlib.Core.Logic.{_⊎_, inl, inr, ⊎-elim}
+use mathlib.Core.Logic.{_⊎_, ⊎-elim}
 use mathlib.Core.Bool.{Bool, true, false, not, cond, _&&_}
 use mathlib.Core.List.{List, [], _∷_, _++_, map, map-append, append-nil, List·Memᴰ, List·Memᴰ·append-cases, List·Memᴰ·eq-of-singleton, List·Memᴰ·not-nil}
-use lib.Dec.{eqb, ltb}
+use lib.Dec.{eqb}
 use Rattle.meaning.specs.Tree.{leafOf, ancestor}
 use Rattle.meaning.specs.Access.{isLeafWrite, isRootRead, isStoreAt}
 use Rattle.meaning.specs.Run.{Entry}
 use Rattle.meaning.specs.TakenIn.{inLeaf, beforeRead, keep, leafWrites, inRoot, placed}
 use Rattle.taken.specs.CountIn.{writesBy, countStore, countIn, Waiter, waiterOf, waiters}
-use Rattle.taken.proofs.Agree.{Once, none, more, Before, same, later, before-trans, before-read, by-before, Writes, here, there, written, agree}
+use Rattle.taken.proofs.Agree.{Once, more, Before, same, later, before-read, by-before, Writes, here, there, written, agree}
 use Rattle.listing.specs.Queue.{isCounted, operationsOf}
 use Rattle.listing.proofs.Laws.{keep-append, Distinct, nothing}
 use Rattle.ledger.proofs.Good.{false-true}
-use Rattle.ledger.proofs.Kept.{mem-keep, keep-keep, mem-operations, operations-append, distinct-more}
+use Rattle.ledger.proofs.Kept.{mem-keep, mem-operations, operations-append, distinct-more}
 
 -- ---- who waits
 

@@ -2,7 +2,6 @@
 -- All of it is bounds on counts, which only grow.
 use Prim.Native.Nat.{ℕ, _≤_}
 use mathlib.Core.Path.{_≡_}
-use mathlib.Core.Logic.{_⊎_}
 use mathlib.Core.Bool.{Bool, true, false}
 use Rattle.tree.specs.Tree.{Tree}
 use Rattle.tree.specs.Machine.{Memory, Stand, Climber, Machine}

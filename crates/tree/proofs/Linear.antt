@@ -1,8 +1,8 @@
 -- The list run over the array of components, for any values and any update: where a step lists those writes that are newly in, in the order in
 -- which they were made, the array goes from each component's value at its old count to its value at the new one.
-use Prim.Native.Nat.{ℕ, zero, suc, _+_, max, min, _≤_, _<_}
+use Prim.Native.Nat.{ℕ, suc, _+_, max, min, _≤_, _<_}
 use native.Mathlib.Omega.{arith}
-use mathlib.Core.Path.{_≡_, refl, sym, ap, ap₂, _∙_, subst, fun-ext}
+use mathlib.Core.Path.{_≡_, refl, sym, ap, _∙_, subst, fun-ext}
 use mathlib.Core.Bool.{Bool, true, false, not, cond, _&&_}
 use mathlib.Core.List.{List, [], _∷_, _++_, List·Memᴰ, List·Memᴰ·head, Memᴰ·append-left, Memᴰ·append-right}
 use lib.Dec.{ltb, eqb}

@@ -1,13 +1,13 @@
 -- Each kind of step: what it does to the places, and where the acting process then stands.
-use Prim.Native.Nat.{ℕ, suc, max, _≤_}
+use Prim.Native.Nat.{ℕ, _≤_}
 use native.Mathlib.Omega.{arith}
 use mathlib.Core.Path.{_≡_, refl, sym, ap, _∙_, subst, subst⁻¹}
-use mathlib.Core.Logic.{_⊎_, inl, inr, ⊎-elim}
+use mathlib.Core.Logic.{_⊎_, ⊎-elim}
 use mathlib.Core.Bool.{Bool, true, false}
 use lib.Dec.{eqb}
 use borrow.Author.Tests.{eqb-true, eqb-false}
 use Rattle.tree.specs.Tree.{Tree, Laws}
-use Rattle.tree.specs.Machine.{Memory, Stand, Climber, trying, before, Remembers, Elsewhere, Stays, Rests, Writes, Links, Got, now, earlier, Reads, Onward, Stores, Failed, again, enough, Fails}
+use Rattle.tree.specs.Machine.{Memory, Stand, Climber, trying, before, Stays, Rests, Writes, Links, Got, now, earlier, Reads, Stores, Failed, again, enough, Fails}
 use Rattle.tree.proofs.Invariant.{Places, Climbing, ClimbingOf, AtRisk, later, lost, Pair, PairOf}
 use Rattle.tree.proofs.Others.{true-false, AfterStep, untouched, stored, Frame, still-saw}
 use Rattle.tree.proofs.Stands.{Acting, resting, waiting, safe, onward}

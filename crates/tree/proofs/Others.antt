@@ -1,12 +1,11 @@
 -- What any step of process p leaves alone, and that the invariant of every other process and of every other two is carried over it.
 use Prim.Native.Nat.{ℕ, _≤_}
 use native.Mathlib.Omega.{arith}
-use mathlib.Core.Path.{_≡_, refl, sym, ap, _∙_, subst}
-use mathlib.Core.Logic.{_⊎_, inl, inr, ⊎-elim}
+use mathlib.Core.Path.{_≡_, sym, _∙_, subst}
 use mathlib.Core.Bool.{Bool, true, false}
 use Rattle.tree.specs.Tree.{Tree, Laws}
 use Rattle.tree.specs.Machine.{Memory, Stand, Climber, Remembers}
-use Rattle.tree.proofs.Invariant.{Places, Climbing, ClimbingOf, AtRisk, later, lost, Pair, PairOf}
+use Rattle.tree.proofs.Invariant.{Places, ClimbingOf, AtRisk, later, lost, Pair, PairOf}
 
 pub true-false : true ≡ false → ⊥
 true-false e = let z : _≡_ {A = ℕ} 0 1 = cc in omega arith

@@ -1,8 +1,6 @@
 -- The acting process after its step, by where it then stands: resting, before an attempt, or done with a node.
 use Prim.Native.Nat.{ℕ, _≤_}
-use native.Mathlib.Omega.{arith}
-use mathlib.Core.Path.{_≡_, refl, sym, ap, _∙_, subst, subst⁻¹}
-use mathlib.Core.Logic.{_⊎_, inl, inr}
+use mathlib.Core.Path.{_≡_, sym, _∙_, subst, subst⁻¹}
 use mathlib.Core.Bool.{Bool, true, false}
 use Rattle.tree.specs.Tree.{Tree, Laws}
 use Rattle.tree.specs.Machine.{Memory, Stand, Climber, trying, before, Onward, up, end}

@@ -1,14 +1,14 @@
 -- The paper's Theorem 5, as far as it speaks of the tree: the invariant holds through every step. So at every time each place holds the
 -- value that belongs to those writes that are in it, and a process that has done with the root finds its own write in the root.
-use Prim.Native.Nat.{ℕ, _≤_}
+use Prim.Native.Nat.{ℕ}
 use native.Mathlib.Omega.{arith}
-use mathlib.Core.Path.{_≡_, refl, sym, ap, _∙_, subst, subst⁻¹}
-use mathlib.Core.Bool.{Bool, true, false}
+use mathlib.Core.Path.{_≡_, sym, ap, _∙_, subst⁻¹}
+use mathlib.Core.Bool.{false}
 use Rattle.tree.specs.Tree.{Tree, Laws}
-use Rattle.tree.specs.Machine.{Memory, Stand, Climber, Machine, Move, rests, writes, links, reads, stores, fails, Step}
-use Rattle.tree.proofs.Invariant.{Places, Climbing, ClimbingOf, AtRisk, Pair, PairOf, Invariant}
-use Rattle.tree.proofs.Others.{true-false, Frame, climbing-on, pair-on}
-use Rattle.tree.proofs.Stands.{Acting, resting}
+use Rattle.tree.specs.Machine.{Climber, Machine, Move, rests, writes, links, reads, stores, fails, Step}
+use Rattle.tree.proofs.Invariant.{ClimbingOf, PairOf, Invariant}
+use Rattle.tree.proofs.Others.{true-false, climbing-on, pair-on}
+use Rattle.tree.proofs.Stands.{resting}
 use Rattle.tree.proofs.Moves.{by-number, Shown, rest, link, read, fail, store, write}
 
 module _ {A : Type 0} (T : Tree A) (L : Laws T) where

@@ -1,6 +1,6 @@
 -- The log of the writes, the earliest first, and the list that is made of it: which writes a step lists, and the array of components that the
 -- list is run over. A write is of any type; component and turn say which component it is to, and how many writes that component had before.
-use Prim.Native.Nat.{ℕ, zero, suc, _+_}
+use Prim.Native.Nat.{ℕ, _+_}
 use mathlib.Core.Path.{_≡_}
 use mathlib.Core.Bool.{Bool, true, false, not, cond, _&&_}
 use mathlib.Core.List.{List, [], _∷_, _++_}
