@@ -43,11 +43,11 @@ try() { # try KIND HEX EXPECTED
   [ "$found" = "$expected" ] || { printf 'docs/FORMAT.md: %s\nfound:\n%s\nthe page says:\n%s\n' "$2" "$found" "$expected"; bad=1; }
 }
 
-mode= hex= text= kind=
+mode='' hex='' text='' kind=''
 while IFS= read -r line; do
   if [ "$line" = '```' ]; then
     [ -z "$kind" ] || try "$kind" "$hex" "${text%$'\n'}"
-    mode= hex= text= kind=
+    mode='' hex='' text='' kind=''
     continue
   fi
   case $line in
