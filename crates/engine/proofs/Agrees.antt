@@ -1,22 +1,20 @@
--- The run's arrays agree with the state of the definitions, and stay so through a step and a start.
-use Prim.Native.Nat.{ℕ, zero, suc, _+_, _*_, _^_, _≤_, _<_}
-use native.Mathlib.Nat.{add-zero}
+-- The run's arrays agree with the state of the definitions, and stay so through a step and a start: the machine's for check, with the
+-- ledger's for report.
+use Prim.Native.Nat.{ℕ, suc, _+_, _*_, _^_, _≤_, _<_}
 use native.Mathlib.Omega.{arith}
 use mathlib.Core.Path.{_≡_, refl, sym, ap, ap₂, _∙_, subst, fun-ext}
-use mathlib.Core.Logic.{_⊎_, inl, inr, ⊎-elim}
-use mathlib.Core.Bool.{Bool, true, false, not, cond}
-use mathlib.Core.List.{List, [], _∷_}
+use mathlib.Core.Bool.{Bool, true, false, not}
+use mathlib.Core.List.{List}
 use lib.ListN.{length, getD, set, length-set}
 use lib.Seq.{getD-set-same, getD-set-other}
 use lib.Pow.{pow-mono}
 use lib.Dec.{eqb}
-use borrow.Author.Tests.{eq-eqb, ne-eqb, eqb-true, eqb-false, not-true}
-use Rattle.sets.specs.Processes.{with, without, countBelow, isIn}
+use borrow.Author.Tests.{eqb-true, eqb-false, not-true}
+use Rattle.sets.specs.Processes.{with, countBelow, isIn}
 use Rattle.sets.proofs.Laws.{is-with, is-without, count-beyond}
-use Rattle.arrays.specs.Arrays.{asFun}
-use Rattle.arrays.proofs.Laws.{upd-cases, upd-same, upd-other, upd-is}
+use Rattle.arrays.proofs.Laws.{upd-same, upd-other, upd-is}
 use Rattle.meaning.specs.Tree.{processes}
-use Rattle.meaning.specs.Steps.{upd, Memory, Process, Effect, effect, accessOf, nextRecord}
+use Rattle.meaning.specs.Steps.{upd, Memory, Process, effect, accessOf, nextRecord}
 use Rattle.meaning.specs.Run.{State, busy, started, kindOf, start, takeStep}
 use Rattle.machine.specs.Arrays.{memoryOf, processOf, idleRecord, startedRecord}
 use Rattle.machine.specs.Nexts.{Nexts, effectOf, CanStep, lastStep}
@@ -25,15 +23,14 @@ use Rattle.ledger.specs.Kept.{Kept, keptStep, keptStart}
 use Rattle.ledger.proofs.Good.{Good, Stepping, good-step, good-start, effectBy, recordAfter}
 use Rattle.ledger.proofs.Keeps.{Keeps, keeps-step, keeps-start}
 use Rattle.ledger.proofs.Total.{Total, total-step, total-start}
+use Rattle.engine.specs.Tries.{busyThen}
 
 -- the definition's records of the processes
 abbrev pub procsOf : List Record → ℕ → Process
 procsOf ps p = processOf (getD ps p idleRecord)
 
-pub record Agrees (h at : ℕ) (st : State) (vals links : List ℕ) (ps : List Record) (set m : ℕ) (k : Kept) : Type 0 where
+pub record Agrees (h at : ℕ) (st : State) (vals links : List ℕ) (ps : List Record) (set m : ℕ) : Type 0 where
   pub good : Good h st
-  pub keeps : Keeps h st k
-  pub total : Total st k
   pub memory : memoryOf vals links ≡ st .memory
   pub procs : procsOf ps ≡ st .process
   pub long : length ps ≡ 64
@@ -41,6 +38,10 @@ pub record Agrees (h at : ℕ) (st : State) (vals links : List ℕ) (ps : List R
   pub operations : m ≡ st .operations
   -- each record takes three bytes at least
   pub place : 3 * length (st .history) + 6 ≤ at
+
+pub record Ledger (h : ℕ) (st : State) (k : Kept) : Type 0 where
+  pub keeps : Keeps h st k
+  pub total : Total st k
 
 -- the processes' records after a store
 procs-set : (ps : List Record) (p : ℕ) (r : Record) → p < length ps → procsOf (set ps p r) ≡ upd (procsOf ps) p (processOf r)
@@ -72,14 +73,10 @@ not-busy : (f : ℕ → Process) (q : ℕ) → f q .step ≡ 0 → busy f q ≡ 
 unfolding busy
 not-busy f q e = rw e
 
--- the set after a step: without the process where it is idle now
-abbrev pub setThen : Bool → ℕ → (ℕ → Bool) → ℕ → Bool
-setThen done p s = cond done (without p s) s
-
-busy-step : (f : ℕ → Process) (p : ℕ) (r : Process) → busy f p ≡ true → setThen (eqb (r .step) 0) p (busy f) ≡ busy (upd f p r)
+busy-step : (f : ℕ → Process) (p : ℕ) (r : Process) → busy f p ≡ true → busyThen (eqb (r .step) 0) p (busy f) ≡ busy (upd f p r)
 busy-step f p r b = go (eqb (r .step) 0) refl
   where
-    go : (t : Bool) → eqb (r .step) 0 ≡ t → setThen t p (busy f) ≡ busy (upd f p r)
+    go : (t : Bool) → eqb (r .step) 0 ≡ t → busyThen t p (busy f) ≡ busy (upd f p r)
     go true e = sym (is-without p (busy f) (busy (upd f p r)) (busy-at f p r ∙ ap not e) (busy-else f p r))
     go false e = fun-ext (λ q. by q (eqb q p) refl)
       where
@@ -89,7 +86,7 @@ busy-step f p r b = go (eqb (r .step) 0) refl
 
 -- ---- a step
 
-module _ (h at : ℕ) (st : State) (vals links : List ℕ) (ps : List Record) (set₀ m : ℕ) (k : Kept) (A : Agrees h at st vals links ps set₀ m k)
+module _ (h at : ℕ) (st : State) (vals links : List ℕ) (ps : List Record) (set₀ m : ℕ) (A : Agrees h at st vals links ps set₀ m)
     (p : ℕ) (inside : p < 2 ^ h) (acts : isIn set₀ p ≡ true) where
   its : processOf (getD ps p idleRecord) ≡ st .process p
   its = ap (λ (f : ℕ → Process). f p) (A .procs)
@@ -109,39 +106,46 @@ module _ (h at : ℕ) (st : State) (vals links : List ℕ) (ps : List Record) (s
         last = subst (λ (x : Process). x .step ≤ lastStep h (x .adds)) (sym its) (A .good .range p);
       }
 
-  pub agrees-step : (next : ℕ) (vals′ links′ : List ℕ) (r : Record) (ps′ : List Record) (set′ : ℕ) (k′ : Kept) → at + 3 ≤ next
-      → Nexts h p (getD ps p idleRecord) vals links vals′ links′ r
-      → k′ ≡ keptStep h p (processOf (getD ps p idleRecord)) (processOf r) (r .stored) k → ps′ ≡ set ps p r
-      → isIn set′ ≡ setThen (eqb (r .step) 0) p (isIn set₀) → Agrees h next (takeStep h p st) vals′ links′ ps′ set′ m k′
-  unfolding takeStep effectOf processOf
-  agrees-step next vals′ links′ r ps′ set′ k′ further n ek ep es =
-      record {
-        good = good-step h p st stepping;
-        keeps = subst (Keeps h (takeStep h p st)) (sym kept) (keeps-step h p st stepping k (A .keeps));
-        total = subst (Total (takeStep h p st)) (sym kept) (total-step h p st stepping k (A .keeps) (A .total));
-        memory = n .memory ∙ ap₂ (λ (x : Process) (w : Memory). effect p x w (accessOf h p x) .memory) its (A .memory);
-        procs = ap procsOf ep ∙ procs-set ps p r (omega (arith, A .long, pow-mono (A .good .high))) ∙ ap₂ (λ (f : ℕ → Process) (x : Process). upd f p x) (A .procs) rec;
-        long = ap length ep ∙ length-set ps p r ∙ A .long;
-        busySet = es ∙ ap (setThen (eqb (r .step) 0) p) (A .busySet) ∙ ap (λ (x : Process). setThen (eqb (x .step) 0) p (busy (st .process))) rec ∙ busy-step (st .process) p (recordAfter h p st) busy-now;
-        operations = A .operations;
-        place = omega (arith, A .place);
-      }
-    where
-      rec : processOf r ≡ recordAfter h p st
-      rec = n .process ∙ ap₂ (λ (x : Process) (w : Memory). nextRecord h p x (effect p x w (accessOf h p x))) its (A .memory)
+  -- the code's step is the definition's
+  module _ (vals′ links′ : List ℕ) (r : Record) (n : Nexts h p (getD ps p idleRecord) vals links vals′ links′ r) where
+    rec : processOf r ≡ recordAfter h p st
+    unfolding effectOf
+    rec = n .process ∙ ap₂ (λ (x : Process) (w : Memory). nextRecord h p x (effect p x w (accessOf h p x))) its (A .memory)
 
-      sto : r .stored ≡ effectBy h p st .stored
-      sto = n .stored ∙ ap₂ (λ (x : Process) (w : Memory). effect p x w (accessOf h p x) .stored) its (A .memory)
+    pub agrees-step : (next : ℕ) (ps′ : List Record) (set′ : ℕ) → at + 3 ≤ next → ps′ ≡ set ps p r → isIn set′ ≡ busyThen (eqb (r .step) 0) p (isIn set₀)
+        → Agrees h next (takeStep h p st) vals′ links′ ps′ set′ m
+    unfolding takeStep effectOf processOf
+    agrees-step next ps′ set′ further ep es =
+        record {
+          good = good-step h p st stepping;
+          memory = n .memory ∙ ap₂ (λ (x : Process) (w : Memory). effect p x w (accessOf h p x) .memory) its (A .memory);
+          procs = ap procsOf ep ∙ procs-set ps p r (omega (arith, A .long, pow-mono (A .good .high))) ∙ ap₂ (λ (f : ℕ → Process) (x : Process). upd f p x) (A .procs) rec;
+          long = ap length ep ∙ length-set ps p r ∙ A .long;
+          busySet = es ∙ ap (busyThen (eqb (r .step) 0) p) (A .busySet) ∙ ap (λ (x : Process). busyThen (eqb (x .step) 0) p (busy (st .process))) rec ∙ busy-step (st .process) p (recordAfter h p st) busy-now;
+          operations = A .operations;
+          place = omega (arith, A .place);
+        }
+      where
+        busy-now : busy (st .process) p ≡ true
+        busy-now = ap (λ (f : ℕ → Bool). f p) (sym (A .busySet)) ∙ acts
 
-      kept : k′ ≡ keptStep h p (st .process p) (recordAfter h p st) (effectBy h p st .stored) k
-      kept = ek ∙ (λ i. keptStep h p (its i) (rec i) (sto i) k)
+    pub ledger-step : (k k′ : Kept) → Ledger h st k → k′ ≡ keptStep h p (processOf (getD ps p idleRecord)) (processOf r) (r .stored) k → Ledger h (takeStep h p st) k′
+    unfolding effectOf
+    ledger-step k k′ L ek =
+        record {
+          keeps = subst (Keeps h (takeStep h p st)) (sym kept) (keeps-step h p st stepping k (L .keeps));
+          total = subst (Total (takeStep h p st)) (sym kept) (total-step h p st stepping k (L .keeps) (L .total));
+        }
+      where
+        sto : r .stored ≡ effectBy h p st .stored
+        sto = n .stored ∙ ap₂ (λ (x : Process) (w : Memory). effect p x w (accessOf h p x) .stored) its (A .memory)
 
-      busy-now : busy (st .process) p ≡ true
-      busy-now = ap (λ (f : ℕ → Bool). f p) (sym (A .busySet)) ∙ acts
+        kept : k′ ≡ keptStep h p (st .process p) (recordAfter h p st) (effectBy h p st .stored) k
+        kept = ek ∙ (λ i. keptStep h p (its i) (rec i) (sto i) k)
 
 -- ---- a start
 
-module _ (h at : ℕ) (st : State) (vals links : List ℕ) (ps : List Record) (set₀ m : ℕ) (k : Kept) (A : Agrees h at st vals links ps set₀ m k)
+module _ (h at : ℕ) (st : State) (vals links : List ℕ) (ps : List Record) (set₀ m : ℕ) (A : Agrees h at st vals links ps set₀ m)
     (p : ℕ) (inside : p < 2 ^ h) (free : isIn set₀ p ≡ false) (room : m < 1024) (adds : Bool) (delta : ℕ) where
   idle-now : st .process p .step ≡ 0
   idle-now = is-idle (st .process) p (ap (λ (f : ℕ → Bool). f p) (sym (A .busySet)) ∙ free)
@@ -160,39 +164,45 @@ module _ (h at : ℕ) (st : State) (vals links : List ℕ) (ps : List Record) (s
   unfolding processOf startedRecord started
   new-record = ap (λ (n : ℕ). started n adds delta) (A .operations)
 
-  pub agrees-start : (next : ℕ) (ps′ : List Record) (set′ contention : ℕ) (k′ : Kept) → at + 3 ≤ next → ps′ ≡ set ps p (startedRecord m adds delta)
-      → isIn set′ ≡ with p (isIn set₀) → contention ≡ countBelow 64 (isIn set′) → k′ ≡ keptStart m p (kindOf adds) contention k
-      → Agrees h next begun vals links ps′ set′ (suc m) k′
-  unfolding start started processes
-  agrees-start next ps′ set′ contention k′ further ep es ec ek =
-      record {
-        good = good-start h p adds delta st (A .good) inside idle-now room-now;
-        keeps = subst (Keeps h begun) (sym kept) (keeps-start h p adds delta st (A .good) inside idle-now room-now k (A .keeps));
-        total = subst (Total begun) (sym kept) (total-start h p adds delta st (A .good) k (A .total) (kindOf adds) (countBelow (processes h) (busy (begun .process))));
-        memory = A .memory;
-        procs = procs-now;
-        long = ap length ep ∙ length-set ps p _ ∙ A .long;
-        busySet = set-now;
-        operations = ap suc (A .operations);
-        place = omega (arith, A .place);
-      }
-    where
-      procs-now : procsOf ps′ ≡ upd (st .process) p (started (st .operations) adds delta)
-      procs-now =
-          ap procsOf ep ∙ procs-set ps p (startedRecord m adds delta) (omega (arith, A .long, low)) ∙ ap₂ (λ (f : ℕ → Process) (x : Process). upd f p x) (A .procs) new-record
+  module _ (ps′ : List Record) (set′ : ℕ) (ep : ps′ ≡ set ps p (startedRecord m adds delta)) (es : isIn set′ ≡ with p (isIn set₀)) where
+    set-now : isIn set′ ≡ busy (upd (st .process) p (started (st .operations) adds delta))
+    unfolding started
+    set-now =
+        es ∙ ap (with p) (A .busySet)
+        ∙ sym (is-with p (busy (st .process)) (busy (upd (st .process) p (started (st .operations) adds delta))) low (busy-at (st .process) p _ ∙ starts-busy) (busy-else (st .process) p _))
+      where
+        starts-busy : not (eqb (started (st .operations) adds delta .step) 0) ≡ true
+        starts-busy = refl
 
-      set-now : isIn set′ ≡ busy (upd (st .process) p (started (st .operations) adds delta))
-      set-now =
-          es ∙ ap (with p) (A .busySet)
-          ∙ sym (is-with p (busy (st .process)) (busy (upd (st .process) p (started (st .operations) adds delta))) low (busy-at (st .process) p _ ∙ starts-busy) (busy-else (st .process) p _))
-        where
-          starts-busy : not (eqb (started (st .operations) adds delta .step) 0) ≡ true
-          starts-busy = refl
+    pub agrees-start : (next : ℕ) → at + 3 ≤ next → Agrees h next begun vals links ps′ set′ (suc m)
+    unfolding start
+    agrees-start next further =
+        record {
+          good = good-start h p adds delta st (A .good) inside idle-now room-now;
+          memory = A .memory;
+          procs = procs-now;
+          long = ap length ep ∙ length-set ps p _ ∙ A .long;
+          busySet = set-now;
+          operations = ap suc (A .operations);
+          place = omega (arith, A .place);
+        }
+      where
+        procs-now : procsOf ps′ ≡ upd (st .process) p (started (st .operations) adds delta)
+        procs-now =
+            ap procsOf ep ∙ procs-set ps p (startedRecord m adds delta) (omega (arith, A .long, low)) ∙ ap₂ (λ (f : ℕ → Process) (x : Process). upd f p x) (A .procs) new-record
 
-      count-now : contention ≡ countBelow (processes h) (busy (begun .process))
-      count-now =
-          ec ∙ ap (countBelow 64) set-now
-          ∙ count-beyond (2 ^ h) 64 _ (pow-mono (A .good .high)) (λ q b. not-busy (begun .process) q (good-start h p adds delta st (A .good) inside idle-now room-now .beyond q b))
+    pub ledger-start : (contention : ℕ) (k k′ : Kept) → Ledger h st k → contention ≡ countBelow 64 (isIn set′) → k′ ≡ keptStart m p (kindOf adds) contention k → Ledger h begun k′
+    unfolding start processes
+    ledger-start contention k k′ L ec ek =
+        record {
+          keeps = subst (Keeps h begun) (sym kept) (keeps-start h p adds delta st (A .good) inside idle-now room-now k (L .keeps));
+          total = subst (Total begun) (sym kept) (total-start h p adds delta st (A .good) k (L .total) (kindOf adds) (countBelow (processes h) (busy (begun .process))));
+        }
+      where
+        count-now : contention ≡ countBelow (processes h) (busy (begun .process))
+        count-now =
+            ec ∙ ap (countBelow 64) set-now
+            ∙ count-beyond (2 ^ h) 64 _ (pow-mono (A .good .high)) (λ q b. not-busy (begun .process) q (good-start h p adds delta st (A .good) inside idle-now room-now .beyond q b))
 
-      kept : k′ ≡ keptStart (st .operations) p (kindOf adds) (countBelow (processes h) (busy (begun .process))) k
-      kept = ek ∙ ap₂ (λ (i c : ℕ). keptStart i p (kindOf adds) c k) (A .operations) count-now
+        kept : k′ ≡ keptStart (st .operations) p (kindOf adds) (countBelow (processes h) (busy (begun .process))) k
+        kept = ek ∙ ap₂ (λ (i c : ℕ). keptStart i p (kindOf adds) c k) (A .operations) count-now

@@ -1,17 +1,15 @@
 -- From how a run ends to what check and report answer and leave in the buffer.
-use Prim.Native.Nat.{ℕ, zero, suc, _+_, _*_, _^_, _≤_, _<_}
+use Prim.Native.Nat.{ℕ, zero, suc, _+_, _*_, _≤_, _<_}
 use native.Mathlib.Omega.{arith}
-use mathlib.Core.Path.{_≡_, refl, sym, ap, _∙_, subst}
-use mathlib.Core.Bool.{Bool, true, false, cond}
-use mathlib.Core.List.{List, [], _∷_, _++_}
-use lib.ListN.{length, getD, drop}
+use mathlib.Core.Path.{_≡_, refl, sym, ap, _∙_}
+use mathlib.Core.Bool.{true, false}
+use mathlib.Core.List.{List, _++_}
+use lib.ListN.{length, drop}
 use lib.Dec.{leb}
 use borrow.Author.Tests.{le-leb, lt-leb}
-use Rattle.recording.specs.Record.{Answer}
 use Rattle.meaning.specs.Layout.{headRefusal, height, recordsOf}
-use Rattle.meaning.specs.Tree.{root}
-use Rattle.meaning.specs.Run.{State, initial, Outcome, refused, accepted, unless, run, outcome}
-use Rattle.meaning.specs.Report.{reportBytes, needed, passes, answerWith, bufferWith, reportAnswer, reportBuffer, checkWith, checkAnswer}
+use Rattle.meaning.specs.Run.{initial, Outcome, refused, accepted, unless, run, outcome}
+use Rattle.meaning.specs.Report.{reportBytes, needed, passes, answerWith, bufferWith, reportAnswer, reportBuffer}
 use Rattle.rows.specs.Rows.{laidReport}
 use Rattle.rows.proofs.Laws.{report-bytes}
 use Rattle.engine.specs.Ends.{answerOf, Ends, refuses, accepts, Reports}
@@ -28,13 +26,6 @@ head-refused s (suc k) e n = rw (← e)
 pub head-passed : (s : List ℕ) (k : ℕ) → k ≡ headRefusal s → k ≡ 0 → outcome s ≡ run (height s) initial (recordsOf s)
 unfolding outcome unless
 head-passed s k e z = ap (λ (n : ℕ). unless n 0 (run (height s) initial (recordsOf s))) (sym e ∙ z)
-
--- ---- check
-
-pub check-ends : (h : ℕ) (rows : ℕ → ℕ) (r : Ended) {o : Outcome} → Ends h rows r o → record { number = r .number; place = r .place } ≡ checkWith o
-unfolding checkWith passes
-check-ends h rows r (refuses a b c) = λ i. record { number = a i; place = b i }
-check-ends h rows r (accepts a b c d e f g) = λ i. record { number = a i; place = b i }
 
 -- ---- report
 

@@ -1,7 +1,8 @@
 pub mod Agrees
 pub mod Room
+pub mod Tries
 pub mod Runs
-pub mod Started
+pub mod Fresh
 pub mod Loop
 pub mod Answers
 pub mod Laws

@@ -1,5 +1,5 @@
 -- There is room in every array for one more step: what the code's step asks follows from the agreement.
-use Prim.Native.Nat.{ℕ, zero, suc, _+_, _*_, _^_, _≤_, _<_}
+use Prim.Native.Nat.{ℕ, suc, _+_, _*_, _^_, _≤_, _<_}
 use native.Mathlib.Nat.{add-zero}
 use native.Mathlib.Omega.{arith}
 use mathlib.Core.Path.{_≡_, refl, sym, ap, _∙_, subst}
@@ -14,7 +14,7 @@ use Rattle.sets.proofs.Laws.{count-differ, count-le}
 use Rattle.arrays.specs.Arrays.{asFun}
 use Rattle.meaning.specs.Access.{isLeafWrite}
 use Rattle.meaning.specs.Steps.{Process}
-use Rattle.meaning.specs.Run.{Entry, Row, State}
+use Rattle.meaning.specs.Run.{Entry, State}
 use Rattle.meaning.specs.Report.{one}
 use Rattle.taken.specs.CountIn.{writesBy, countIn, Waiter, waiters}
 use Rattle.taken.proofs.Agree.{written}
@@ -30,10 +30,9 @@ use Rattle.ledger.specs.Kept.{Kept}
 use Rattle.ledger.proofs.Did.{did, did-leaf}
 use Rattle.ledger.proofs.Kept.{mem-keep}
 use Rattle.ledger.proofs.Waiters.{waiter-writes}
-use Rattle.ledger.proofs.Listing.{waitingOf}
 use Rattle.ledger.proofs.Total.{acts, size, total-few, not-acted}
 use Rattle.keeping.specs.Keeping.{keptOf, CanKeep}
-use Rattle.engine.proofs.Agrees.{Agrees, stepping, can-step}
+use Rattle.engine.proofs.Agrees.{Agrees, Ledger, stepping, can-step}
 
 all-of : {A : Type 0} (P : A → Type 0) (l : List A) → ((a : A) → List·Memᴰ a l → P a) → All P l
 all-of P [] f = none
@@ -71,7 +70,7 @@ unfolding countsOf levels countIn
 leaf-count counts read writes h p es e = e
 
 module _ (h at : ℕ) (st : State) (vals links : List ℕ) (ps : List Record) (set₀ m : ℕ) (counts : List (List ℕ)) (writes : List ℕ) (read : List (List ℕ)) (queue turns rows : List ℕ) (l : Listed)
-    (A : Agrees h at st vals links ps set₀ m (keptOf counts writes read queue turns rows l)) (p : ℕ) (inside : p < 2 ^ h) (acting : isIn set₀ p ≡ true) (short : at ≤ 65536) where
+    (A : Agrees h at st vals links ps set₀ m) (L : Ledger h st (keptOf counts writes read queue turns rows l)) (p : ℕ) (inside : p < 2 ^ h) (acting : isIn set₀ p ≡ true) (short : at ≤ 65536) where
   abbrev k : Kept
   k = keptOf counts writes read queue turns rows l
 
@@ -83,16 +82,16 @@ module _ (h at : ℕ) (st : State) (vals links : List ℕ) (ps : List Record) (s
   its-size = ap (λ (n : ℕ). l .rank + n) length-queue
 
   sizes : l .rank + l .waiting ≤ st .operations
-  sizes = omega (arith, its-size, total-few st k (A .total))
+  sizes = omega (arith, its-size, total-few st k (L .total))
 
   -- the acting process's operation, when it has yet to write its leaf, is neither listed nor waiting
   sizes-less : st .process p .step ≡ 2 → l .rank + l .waiting < st .operations
   sizes-less two =
-      let s = stepping h at st vals links ps set₀ m k A p inside acting in
+      let s = stepping h at st vals links ps set₀ m A p inside acting in
       omega (
         arith,
         its-size,
-        A .total .total,
+        L .total .total,
         count-less (st .operations) (st .process p .operation) (λ i. did acts i (st .history)) (A .good .owns p (s .acts))
             (not-acted (st .process p .operation) (st .history) (A .good .fresh p (s .acts) (λ e. omega arith)) (A .good .unread p (s .acts))),
       )
@@ -113,12 +112,12 @@ module _ (h at : ℕ) (st : State) (vals links : List ℕ) (ps : List Record) (s
   room-to-write = omega (arith, its-writes, writes-few p (st .history), A .place, short)
     where
       its-writes : asFun writes p ≡ writesBy p (st .history)
-      its-writes = leaf-count counts read writes h p (st .history) (A .keeps .counts .inNode 0 p (omega arith) inside)
+      its-writes = leaf-count counts read writes h p (st .history) (L .keeps .counts .inNode 0 p (omega arith) inside)
 
   waiters-known : (w : Waiter) → List·Memᴰ w (queueOf (asFun queue) (asFun turns) (l .waiting)) → w .operation < 1024
   unfolding keptOf
   waiters-known w n =
-      let waits = mem-keep _ (waiters (st .history)) (subst (List·Memᴰ w) (A .keeps .queue) n) in
+      let waits = mem-keep _ (waiters (st .history)) (subst (List·Memᴰ w) (L .keeps .queue) n) in
       omega (
         arith,
         A .good .few,
@@ -141,10 +140,10 @@ module _ (h at : ℕ) (st : State) (vals links : List ℕ) (ps : List Record) (s
       o = st .process p .operation
 
       started : o < st .operations
-      started = A .good .owns p (stepping h at st vals links ps set₀ m k A p inside acting .acts)
+      started = A .good .owns p (stepping h at st vals links ps set₀ m A p inside acting .acts)
 
       first-number : asFun rows (5 * o) ≡ st .row o .process * 2 ^ 24 + st .row o .kind * 2 ^ 16 + cond (st .row o .finished) 1 0 * 2 ^ 8 + st .row o .contention
-      first-number = ap (asFun rows) (sym (add-zero (5 * o))) ∙ A .keeps .rows o 0 started (omega arith)
+      first-number = ap (asFun rows) (sym (add-zero (5 * o))) ∙ L .keeps .rows o 0 started (omega arith)
 
       one-small : (t : Bool) → cond t 1 0 ≤ 1
       one-small true = omega arith
@@ -155,8 +154,8 @@ module _ (h at : ℕ) (st : State) (vals links : List ℕ) (ps : List Record) (s
           record {
             row = omega (arith, started, A .good .few);
             head = omega (arith, first-number, one-small (st .row o .finished), A .good .owners o, A .good .fits o .kind, A .good .fits o .contention);
-            steps = omega (arith, A .keeps .rows o 1 started (omega arith), A .good .steps o, A .place, short);
-            seconds = omega (arith, A .keeps .rows o 4 started (omega arith), A .good .seconds o, A .place, short);
+            steps = omega (arith, L .keeps .rows o 1 started (omega arith), A .good .steps o, A .place, short);
+            seconds = omega (arith, L .keeps .rows o 4 started (omega arith), A .good .seconds o, A .place, short);
           }
 
   pub can-keep : CanKeep h p (getD ps p idleRecord) writes queue rows l
@@ -165,7 +164,7 @@ module _ (h at : ℕ) (st : State) (vals links : List ℕ) (ps : List Record) (s
         low = A .good .low;
         high = A .good .high;
         process = omega (arith, inside, pow-mono (A .good .high));
-        step = omega (arith, can-step h at st vals links ps set₀ m k A p inside acting .last, last-small h (getD ps p idleRecord .adds) (A .good .high));
+        step = omega (arith, can-step h at st vals links ps set₀ m A p inside acting .last, last-small h (getD ps p idleRecord .adds) (A .good .high));
         written = room-to-write;
         queue = can-list;
         waiting = λ two. omega (arith, sizes-less (sym its-step ∙ two), A .good .few);

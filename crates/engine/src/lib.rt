@@ -4,21 +4,31 @@ use machine::Process;
 use recording::Cut;
 use recording::Event;
 ghost use Prim.Native.Nat.{_+_, _*_, _^_, _≤_, _<_};
+ghost use lib.Dec.{eqb};
 ghost use mathlib.Core.Path.{_≡_};
 ghost use lib.ListN.{length};
 ghost use Rattle.sets.specs.Processes.{countBelow, isIn};
 ghost use Rattle.arrays.specs.Arrays.{asFun};
-ghost use Rattle.meaning.specs.Layout.{recordsOf, height};
+ghost use Rattle.meaning.specs.Layout.{recordsOf};
 ghost use Rattle.meaning.specs.Run.{initial, kindOf, run as runOf};
-ghost use Rattle.meaning.specs.Report.{checkAnswer};
+ghost use Rattle.meaning.specs.Report.{checkWith, checkAnswer};
+ghost use Rattle.machine.specs.Arrays.{startedRecord};
 ghost use Rattle.rows.specs.Rows.{withRow, freshNumbers};
 ghost use Rattle.engine.specs.Ends.{answerOf, addsOf, deltaOf, Refuses, Ends, Reports};
+ghost use Rattle.engine.specs.Tries.{Tries, busyThen};
 
 // A refusal number, or 0, and a place.
 #[repr(C)]
 pub struct Reply {
     pub number: u32,
     pub place: u32,
+}
+
+// What the record at a place comes to: no more records, a refusal and its place, or an event that passes and the next place.
+pub enum Tried {
+    End,
+    Refused(u32, usize),
+    Passes(Event, usize),
 }
 
 // The reply, and for an accepted recording its operations and its counter.
@@ -61,6 +71,38 @@ fn delta_of(e: Event) -> u32
     }
 }
 
+fn try_at(s: &[u8], h: u32, busy: u64, m: u32, at: usize) -> Tried
+    requires { ⌜ h ≤ 6 ⌝ }
+    ensures { λ r. ⌜ Tries (now (s .entry)) h busy m at r ⌝ }
+{
+    match recording::cut_at(s, at) {
+        Cut::End => Tried::End,
+        Cut::Broken(place) => Tried::Refused(6, place),
+        Cut::Found(e, next) => {
+            let k = rules::refusal(h, e, sets::has(busy, rules::process_of(e)), m);
+            if k != 0 {
+                Tried::Refused(k, at)
+            } else {
+                Tried::Passes(e, next)
+            }
+        }
+    }
+}
+
+// The record of a process right after its start record, which is operation m.
+fn started(m: u32, e: Event) -> Process
+    ensures { λ r. ⌜ r ≡ startedRecord m (addsOf e) (deltaOf e) ⌝ }
+{
+    Process::started(m, adds(e), delta_of(e))
+}
+
+// Who is busy after a step of p, by its step number then.
+fn busy_after(busy: u64, p: usize, step: u32) -> u64
+    ensures { λ r. ⌜ isIn r ≡ busyThen (eqb step 0) p (isIn busy) ⌝ }
+{
+    if step == 0 { sets::cut(busy, p) } else { busy }
+}
+
 // The row of operation m, with the contention right after its start.
 fn start_row(rows: &mut [u32; 5120], m: u32, p: usize, adds: bool, busy: u64)
     requires { ⌜ (m < 1024) × (p < 64) ⌝ }
@@ -70,7 +112,7 @@ fn start_row(rows: &mut [u32; 5120], m: u32, p: usize, adds: bool, busy: u64)
     rows::start_row(rows, m as usize, p as u8, kind, sets::count(busy) as u8);
 }
 
-// The run over the records of a recording whose header has passed.
+// The run over the records of a recording whose header has passed, with what a report asks for.
 fn run(s: &[u8], h: u32, rows: &mut [u32; 5120]) -> Ended
     requires { ⌜ (1 ≤ h) × (h ≤ 6) × (length (now s) ≤ 65536) ⌝ }
     ensures { λ r. ⌜ Ends h (asFun (now (rows .exit))) r (runOf h initial (recordsOf (now (s .entry)))) ⌝ }
@@ -92,8 +134,8 @@ fn run(s: &[u8], h: u32, rows: &mut [u32; 5120]) -> Ended
     let mut m: u32 = 0;
     let mut at: usize = 6;
     loop {
-        match recording::cut_at(s, at) {
-            Cut::End => {
+        match try_at(s, h, busy, m, at) {
+            Tried::End => {
                 return Ended {
                     number: 0,
                     place: 0,
@@ -101,17 +143,13 @@ fn run(s: &[u8], h: u32, rows: &mut [u32; 5120]) -> Ended
                     counter: vals[1],
                 };
             }
-            Cut::Broken(place) => {
-                return refused(6, place);
+            Tried::Refused(number, place) => {
+                return refused(number, place);
             }
-            Cut::Found(e, next) => {
+            Tried::Passes(e, next) => {
                 let p = rules::process_of(e);
-                let k = rules::refusal(h, e, sets::has(busy, p), m);
-                if k != 0 {
-                    return refused(k, at);
-                }
                 if rules::is_start(e) {
-                    procs[p] = Process::started(m, adds(e), delta_of(e));
+                    procs[p] = started(m, e);
                     busy = sets::put(busy, p);
                     start_row(rows, m, p, adds(e), busy);
                     m = m + 1;
@@ -132,9 +170,52 @@ fn run(s: &[u8], h: u32, rows: &mut [u32; 5120]) -> Ended
                         listed,
                     );
                     procs[p] = after;
-                    if after.step == 0 {
-                        busy = sets::cut(busy, p);
-                    }
+                    busy = busy_after(busy, p, after.step);
+                }
+                at = next;
+            }
+        }
+    }
+}
+
+// The same run with only what acceptance hangs on.
+fn check_records(s: &[u8], h: u32) -> Reply
+    requires { ⌜ (1 ≤ h) × (h ≤ 6) × (length (now s) ≤ 65536) ⌝ }
+    ensures { λ r. ⌜ answerOf r ≡ checkWith (runOf h initial (recordsOf (now (s .entry)))) ⌝ }
+{
+    let mut vals = [0u32; 128];
+    let mut links = [0u64; 64];
+    let idle = Process::idle();
+    let mut procs = [idle; 64];
+    let mut busy = sets::empty();
+    let mut operations: u32 = 0;
+    let mut at: usize = 6;
+    loop {
+        match try_at(s, h, busy, operations, at) {
+            Tried::End => {
+                return Reply {
+                    number: 0,
+                    place: 0,
+                };
+            }
+            Tried::Refused(number, place) => {
+                let last = refused(number, place);
+                return Reply {
+                    number: last.number,
+                    place: last.place,
+                };
+            }
+            Tried::Passes(e, next) => {
+                let p = rules::process_of(e);
+                if rules::is_start(e) {
+                    procs[p] = started(operations, e);
+                    busy = sets::put(busy, p);
+                    operations = operations + 1;
+                } else {
+                    let r = procs[p];
+                    let after = r.next(h, p, &mut vals, &mut links);
+                    procs[p] = after;
+                    busy = busy_after(busy, p, after.step);
                 }
                 at = next;
             }
@@ -153,12 +234,7 @@ pub fn check(s: &[u8]) -> Reply
             place: 0,
         };
     }
-    let mut rows = [0u32; 5120];
-    let last = run(s, s[5] as u32, &mut rows);
-    Reply {
-        number: last.number,
-        place: last.place,
-    }
+    check_records(s, s[5] as u32)
 }
 
 // The answer, and on acceptance the report at the front of out.

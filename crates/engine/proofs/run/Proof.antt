@@ -1,20 +1,20 @@
 -- `run` meets its contract: each way out is one of the invariant's, and each turn takes it on by one record.
 use Prim.Native.Nat.{_-_}
-use borrow.Author.Needs.{needs}
-use native.Mathlib.Omega.{arith}
-use mathlib.Core.Path.{refl, sym, _∙_}
-use lib.ListN.{length}
+use mathlib.Core.Path.{refl, sym, ap, _∙_}
+use lib.ListN.{length, set}
 use Rattle.machine.specs.Arrays.{idleRecord}
 use Rattle.keeping.specs.Keeping.{keptOf}
-use Rattle.engine.proofs.Agrees.{can-step}
 use Rattle.engine.proofs.Room.{can-keep}
-use Rattle.engine.proofs.Runs.{Runs, runs-broken, runs-refused, runs-step, runs-start, ends-accepted, ends-refused}
-use Rattle.engine.proofs.Loop.{found-inside, broken-inside, broken-left, refusal-here, inside, low, acting, free, room, begins, set-done, set-on, kept-started, procs-started}
+use Rattle.engine.proofs.Runs.{RunsKept, runs-stopped, inside, low, acting, room, can-step, runs-kept-step, runs-kept-start, ends-accepted, ends-refused}
+use Rattle.engine.proofs.Loop.{begins-kept, kept-started}
+use Rattle.engine.proofs.Tries.{tried-end, tried-stopped, tried-passes}
+use borrow.Author.Needs.{needs}
+use native.Mathlib.Omega.{arith}
 use Rattle.engine.proofs.run.Statement.{statement}
 use Rattle.engine.proofs.run.Tie as tie
 
 abbrev Inv-loop : tie.InvT-loop
-Inv-loop s h rows₀ vals₀ links₀ counts₀ written₀ read₀ queue₀ turns₀ procs₀ listed₀ busy₀ m₀ at₀ rows vals links counts written read queue turns procs listed busy m at = Runs s h at vals links procs busy m (keptOf counts written read queue turns rows listed)
+Inv-loop s h rows₀ vals₀ links₀ counts₀ written₀ read₀ queue₀ turns₀ procs₀ listed₀ busy₀ m₀ at₀ rows vals links counts written read queue turns procs listed busy m at = RunsKept s h at vals links procs busy m (keptOf counts written read queue turns rows listed)
 
 abbrev μ-loop : tie.MeasureT-loop
 μ-loop s h rows₀ vals₀ links₀ counts₀ written₀ read₀ queue₀ turns₀ procs₀ listed₀ busy₀ m₀ at₀ rows vals links counts written read queue turns procs listed busy m at = length s - at
@@ -27,32 +27,32 @@ empty-requires c κs = search needs
 
 loop-holds : tie.Need-loop-holds Inv-loop μ-loop
 loop-holds c =
-    begins ((c .before .before .before .args) .s .now) ((c .before .before .before .args) .h) ((c .before .idle) .result) ((c .empty) .result) ((c .before .before .before .args) .rows .now) ((c .before .before .before .pre) .0) ((c .before .before .before .pre) .1) ((c .before .idle) .ensures) ((c .empty) .ensures) 128 64 6 64 64 1024 64 refl
+    begins-kept ((c .before .before .before .args) .s .now) ((c .before .before .before .args) .h) ((c .before .idle) .result) ((c .empty) .result) ((c .before .before .before .pre) .0) ((c .before .before .before .pre) .1) ((c .before .idle) .ensures) ((c .empty) .ensures) 128 64 64 refl ((c .before .before .before .args) .rows .now) 6 64 64 1024
 
-cut-at-requires : tie.Need-cut-at-requires Inv-loop μ-loop
-cut-at-requires c κs = search needs
+try-at-requires : tie.Need-try-at-requires Inv-loop μ-loop
+try-at-requires c κs =
+    (c .before .before .before .before .pre) .1
 
 enum-told : tie.Need-enum-told Inv-loop μ-loop
 enum-told c = search needs
 
 array-read-t28 : tie.Need-array-read-t28 Inv-loop μ-loop
-array-read-t28 c =
-    search needs
+array-read-t28 c = search needs
 
 returns : tie.Need-returns Inv-loop μ-loop
 returns c =
-    ends-accepted _ _ _ _ _ _ _ _ _ _ _ _ _ _ _ ((c .before .before .before .loop) .inv) (sym ((c .before .before .cut-at) .ensures .is) ∙ (c .enum-told) .given .1) _ refl refl refl refl
+    ends-accepted _ _ _ _ _ _ _ _ _ _ _ _ _ _ _ ((c .before .before .before .loop) .inv) (tried-end _ _ _ _ _ _ ((c .before .before .try-at) .ensures) ((c .enum-told) .given .1)) _ refl refl refl refl
 
-enum-known-place : tie.Need-enum-known-place Inv-loop μ-loop
-enum-known-place c = search needs
+enum-known-number : tie.Need-enum-known-number Inv-loop μ-loop
+enum-known-number c = search needs
 
 refused-requires : tie.Need-refused-requires Inv-loop μ-loop
 refused-requires c κs =
-    omega (arith, broken-inside _ _ _ _ ((c .before .before .before .cut-at) .ensures) ((c .before .place) .given .1), (c .before .before .before .before .before .before .before .before .pre) .2)
+    omega (arith, tried-stopped _ _ _ _ _ _ ((c .before .before .before .try-at) .ensures) _ _ ((c .before .number) .given .1) .inside, (c .before .before .before .before .before .before .before .before .pre) .2)
 
 returns-2 : tie.Need-returns-2 Inv-loop μ-loop
 returns-2 c =
-    ends-refused _ _ _ 6 _ _ (runs-broken _ _ _ _ _ _ _ _ _ ((c .before .before .before .before .before .loop) .inv) _ (sym ((c .before .before .before .before .cut-at) .ensures .is) ∙ (c .before .before .place) .given .1) (broken-left _ _ _ (sym ((c .before .before .before .before .cut-at) .ensures .is) ∙ (c .before .before .place) .given .1))) (omega arith) ((c .refused) .ensures)
+    ends-refused _ _ _ _ _ _ (runs-stopped _ _ _ _ _ _ _ _ ((c .before .before .before .before .before .loop) .inv .runs) _ _ (tried-stopped _ _ _ _ _ _ ((c .before .before .before .before .try-at) .ensures) _ _ ((c .before .before .number) .given .1))) ((c .refused) .ensures)
 
 enum-known-e : tie.Need-enum-known-e Inv-loop μ-loop
 enum-known-e c = search needs
@@ -60,110 +60,79 @@ enum-known-e c = search needs
 process-of-requires : tie.Need-process-of-requires Inv-loop μ-loop
 process-of-requires c κs = search needs
 
-has-requires : tie.Need-has-requires Inv-loop μ-loop
-has-requires c κs = search needs
-
-refusal-requires : tie.Need-refusal-requires Inv-loop μ-loop
-refusal-requires c κs =
-    (c .before .before .before .before .before .before .before .before .before .before .pre) .1
-
-refused-requires-2 : tie.Need-refused-requires-2 Inv-loop μ-loop
-refused-requires-2 c κs =
-    omega (arith, found-inside _ _ _ _ _ ((c .before .before .before .before .before .before .before .cut-at) .ensures) ((c .before .before .before .before .before .e) .given .1), (c .before .before .before .before .before .before .before .before .before .before .before .before .pre) .2)
-
-returns-3 : tie.Need-returns-3 Inv-loop μ-loop
-returns-3 c =
-    let ne = (c .before .if1) .taken in
-    ends-refused _ _ _ _ _ _ (runs-refused _ _ _ _ _ _ _ _ _ ((c .before .before .before .before .before .before .before .before .before .loop) .inv) _ _ _ (sym ((c .before .before .before .before .before .before .before .before .cut-at) .ensures .is) ∙ (c .before .before .before .before .before .before .e) .given .1) (omega (arith, found-inside _ _ _ _ _ ((c .before .before .before .before .before .before .before .before .cut-at) .ensures) ((c .before .before .before .before .before .before .e) .given .1))) (refusal-here _ _ _ _ _ _ _ _ _ ((c .before .before .before .before .before .before .before .before .before .loop) .inv) _ _ _ _ ((c .before .before .before .before .process-of) .ensures) ((c .before .before .before .has) .ensures) ((c .before .before .refusal) .ensures)) ne) (omega arith) ((c .refused2) .ensures)
-
 is-start-requires : tie.Need-is-start-requires Inv-loop μ-loop
 is-start-requires c κs = search needs
-
-adds-requires : tie.Need-adds-requires Inv-loop μ-loop
-adds-requires c κs = search needs
-
-delta-of-requires : tie.Need-delta-of-requires Inv-loop μ-loop
-delta-of-requires c κs = search needs
 
 started-requires : tie.Need-started-requires Inv-loop μ-loop
 started-requires c κs = search needs
 
 mul-procs : tie.Need-mul-procs Inv-loop μ-loop
 mul-procs c =
-    omega (arith, low _ _ _ _ _ _ _ _ _ ((c .before .before .before .before .before .before .before .before .before .before .before .before .before .loop) .inv) _ _ _ _ ((c .before .before .before .before .before .before .before .before .process-of) .ensures) ((c .before .before .before .before .before .before .before .has) .ensures) ((c .before .before .before .before .before .before .refusal) .ensures) ((c .before .before .before .before .before .if1) .left))
+    omega (arith, low _ _ _ _ _ _ _ _ ((c .before .before .before .before .before .before .before .before .loop) .inv .runs) _ _ (tried-passes _ _ _ _ _ _ ((c .before .before .before .before .before .before .before .try-at) .ensures) _ _ ((c .before .before .before .before .before .e) .given .1)) _ ((c .before .before .before .process-of) .ensures))
 
 array-set-from-procs : tie.Need-array-set-from-procs Inv-loop μ-loop
 array-set-from-procs c =
-    low _ _ _ _ _ _ _ _ _ ((c .before .before .before .before .before .before .before .before .before .before .before .before .before .loop) .inv) _ _ _ _ ((c .before .before .before .before .before .before .before .before .process-of) .ensures) ((c .before .before .before .before .before .before .before .has) .ensures) ((c .before .before .before .before .before .before .refusal) .ensures) ((c .before .before .before .before .before .if1) .left)
+    low _ _ _ _ _ _ _ _ ((c .before .before .before .before .before .before .before .before .loop) .inv .runs) _ _ (tried-passes _ _ _ _ _ _ ((c .before .before .before .before .before .before .before .try-at) .ensures) _ _ ((c .before .before .before .before .before .e) .given .1)) _ ((c .before .before .before .process-of) .ensures)
 
 put-requires : tie.Need-put-requires Inv-loop μ-loop
 put-requires c κs = search needs
 
-adds-requires-2 : tie.Need-adds-requires-2 Inv-loop μ-loop
-adds-requires-2 c κs = search needs
+adds-requires : tie.Need-adds-requires Inv-loop μ-loop
+adds-requires c κs = search needs
 
 start-row-requires : tie.Need-start-row-requires Inv-loop μ-loop
 start-row-requires c κs =
-    (room _ _ _ _ _ _ _ _ _ ((c .before .before .before .before .before .before .before .before .before .before .before .before .before .before .before .before .loop) .inv) _ _ _ _ ((c .before .before .before .before .before .before .before .before .before .before .before .process-of) .ensures) ((c .before .before .before .before .before .before .before .before .before .before .has) .ensures) ((c .before .before .before .before .before .before .before .before .before .refusal) .ensures) ((c .before .before .before .before .before .before .before .before .if1) .left) (sym ((c .before .before .before .before .before .before .before .is-start) .ensures) ∙ (c .before .before .before .before .before .before .if2) .taken), low _ _ _ _ _ _ _ _ _ ((c .before .before .before .before .before .before .before .before .before .before .before .before .before .before .before .before .loop) .inv) _ _ _ _ ((c .before .before .before .before .before .before .before .before .before .before .before .process-of) .ensures) ((c .before .before .before .before .before .before .before .before .before .before .has) .ensures) ((c .before .before .before .before .before .before .before .before .before .refusal) .ensures) ((c .before .before .before .before .before .before .before .before .if1) .left))
+    (room _ _ _ _ _ _ _ _ ((c .before .before .before .before .before .before .before .before .before .before .before .loop) .inv .runs) _ _ (tried-passes _ _ _ _ _ _ ((c .before .before .before .before .before .before .before .before .before .before .try-at) .ensures) _ _ ((c .before .before .before .before .before .before .before .before .e) .given .1)) _ ((c .before .before .before .before .before .before .process-of) .ensures) (sym ((c .before .before .before .before .before .is-start) .ensures) ∙ (c .before .before .before .before .if1) .taken), low _ _ _ _ _ _ _ _ ((c .before .before .before .before .before .before .before .before .before .before .before .loop) .inv .runs) _ _ (tried-passes _ _ _ _ _ _ ((c .before .before .before .before .before .before .before .before .before .before .try-at) .ensures) _ _ ((c .before .before .before .before .before .before .before .before .e) .given .1)) _ ((c .before .before .before .before .before .before .process-of) .ensures))
 
 add-m : tie.Need-add-m Inv-loop μ-loop
 add-m c =
-    omega (arith, room _ _ _ _ _ _ _ _ _ ((c .before .before .before .before .before .before .before .before .before .before .before .before .before .before .before .before .before .loop) .inv) _ _ _ _ ((c .before .before .before .before .before .before .before .before .before .before .before .before .process-of) .ensures) ((c .before .before .before .before .before .before .before .before .before .before .before .has) .ensures) ((c .before .before .before .before .before .before .before .before .before .before .refusal) .ensures) ((c .before .before .before .before .before .before .before .before .before .if1) .left) (sym ((c .before .before .before .before .before .before .before .before .is-start) .ensures) ∙ (c .before .before .before .before .before .before .before .if2) .taken))
+    omega (arith, room _ _ _ _ _ _ _ _ ((c .before .before .before .before .before .before .before .before .before .before .before .before .loop) .inv .runs) _ _ (tried-passes _ _ _ _ _ _ ((c .before .before .before .before .before .before .before .before .before .before .before .try-at) .ensures) _ _ ((c .before .before .before .before .before .before .before .before .before .e) .given .1)) _ ((c .before .before .before .before .before .before .before .process-of) .ensures) (sym ((c .before .before .before .before .before .before .is-start) .ensures) ∙ (c .before .before .before .before .before .if1) .taken))
 
 mul-r : tie.Need-mul-r Inv-loop μ-loop
 mul-r c =
-    omega (arith, low _ _ _ _ _ _ _ _ _ ((c .before .before .before .before .before .before .before .before .before .before .loop) .inv) _ _ _ _ ((c .before .before .before .before .before .process-of) .ensures) ((c .before .before .before .before .has) .ensures) ((c .before .before .before .refusal) .ensures) ((c .before .before .if1) .left))
+    omega (arith, low _ _ _ _ _ _ _ _ ((c .before .before .before .before .before .before .before .loop) .inv .runs) _ _ (tried-passes _ _ _ _ _ _ ((c .before .before .before .before .before .before .try-at) .ensures) _ _ ((c .before .before .before .before .e) .given .1)) _ ((c .before .before .process-of) .ensures))
 
 array-copy-out-r : tie.Need-array-copy-out-r Inv-loop μ-loop
 array-copy-out-r c =
-    low _ _ _ _ _ _ _ _ _ ((c .before .before .before .before .before .before .before .before .before .before .loop) .inv) _ _ _ _ ((c .before .before .before .before .before .process-of) .ensures) ((c .before .before .before .before .has) .ensures) ((c .before .before .before .refusal) .ensures) ((c .before .before .if1) .left)
+    low _ _ _ _ _ _ _ _ ((c .before .before .before .before .before .before .before .loop) .inv .runs) _ _ (tried-passes _ _ _ _ _ _ ((c .before .before .before .before .before .before .try-at) .ensures) _ _ ((c .before .before .before .before .e) .given .1)) _ ((c .before .before .process-of) .ensures)
 
 next-requires : tie.Need-next-requires Inv-loop μ-loop
 unfolding idleRecord
 next-requires c κs =
-    can-step _ _ _ _ _ _ _ _ _ ((c .before .before .before .before .before .before .before .before .before .before .before .before .before .loop) .inv .agrees) _ (inside _ _ _ _ _ _ _ _ _ ((c .before .before .before .before .before .before .before .before .before .before .before .before .before .loop) .inv) _ _ _ _ ((c .before .before .before .before .before .before .before .before .process-of) .ensures) ((c .before .before .before .before .before .before .before .has) .ensures) ((c .before .before .before .before .before .before .refusal) .ensures) ((c .before .before .before .before .before .if1) .left)) (acting _ _ _ _ _ _ _ _ _ ((c .before .before .before .before .before .before .before .before .before .before .before .before .before .loop) .inv) _ _ _ _ ((c .before .before .before .before .before .before .before .before .process-of) .ensures) ((c .before .before .before .before .before .before .before .has) .ensures) ((c .before .before .before .before .before .before .refusal) .ensures) ((c .before .before .before .before .before .if1) .left) (sym ((c .before .before .before .before .is-start) .ensures) ∙ (c .before .before .before .if2) .left))
+    can-step _ _ _ _ _ _ _ _ ((c .before .before .before .before .before .before .before .before .before .before .loop) .inv .runs) _ _ (tried-passes _ _ _ _ _ _ ((c .before .before .before .before .before .before .before .before .before .try-at) .ensures) _ _ ((c .before .before .before .before .before .before .before .e) .given .1)) _ ((c .before .before .before .before .before .process-of) .ensures) (sym ((c .before .before .before .before .is-start) .ensures) ∙ (c .before .before .before .if1) .left)
 
 take-step-requires : tie.Need-take-step-requires Inv-loop μ-loop
 unfolding idleRecord
 take-step-requires c κs =
-    can-keep _ _ _ _ _ _ _ _ _ _ _ _ _ _ _ ((c .before .before .before .before .before .before .before .before .before .before .before .before .before .before .before .before .before .before .before .before .loop) .inv .agrees) _ (inside _ _ _ _ _ _ _ _ _ ((c .before .before .before .before .before .before .before .before .before .before .before .before .before .before .before .before .before .before .before .before .loop) .inv) _ _ _ _ ((c .before .before .before .before .before .before .before .before .before .before .before .before .before .before .before .process-of) .ensures) ((c .before .before .before .before .before .before .before .before .before .before .before .before .before .before .has) .ensures) ((c .before .before .before .before .before .before .before .before .before .before .before .before .before .refusal) .ensures) ((c .before .before .before .before .before .before .before .before .before .before .before .before .if1) .left)) (acting _ _ _ _ _ _ _ _ _ ((c .before .before .before .before .before .before .before .before .before .before .before .before .before .before .before .before .before .before .before .before .loop) .inv) _ _ _ _ ((c .before .before .before .before .before .before .before .before .before .before .before .before .before .before .before .process-of) .ensures) ((c .before .before .before .before .before .before .before .before .before .before .before .before .before .before .has) .ensures) ((c .before .before .before .before .before .before .before .before .before .before .before .before .before .refusal) .ensures) ((c .before .before .before .before .before .before .before .before .before .before .before .before .if1) .left) (sym ((c .before .before .before .before .before .before .before .before .before .before .before .is-start) .ensures) ∙ (c .before .before .before .before .before .before .before .before .before .before .if2) .left)) (omega (arith, found-inside _ _ _ _ _ ((c .before .before .before .before .before .before .before .before .before .before .before .before .before .before .before .before .before .before .before .cut-at) .ensures) ((c .before .before .before .before .before .before .before .before .before .before .before .before .before .before .before .before .before .e) .given .1), (c .before .before .before .before .before .before .before .before .before .before .before .before .before .before .before .before .before .before .before .before .before .before .before .before .pre) .2))
+    let w = (tried-passes _ _ _ _ _ _ ((c .before .before .before .before .before .before .before .before .before .before .before .before .before .before .before .before .try-at) .ensures) _ _ ((c .before .before .before .before .before .before .before .before .before .before .before .before .before .before .e) .given .1)) in can-keep _ _ _ _ _ _ _ _ _ _ _ _ _ _ _ ((c .before .before .before .before .before .before .before .before .before .before .before .before .before .before .before .before .before .loop) .inv .runs .agrees) ((c .before .before .before .before .before .before .before .before .before .before .before .before .before .before .before .before .before .loop) .inv .ledger) _ (inside _ _ _ _ _ _ _ _ ((c .before .before .before .before .before .before .before .before .before .before .before .before .before .before .before .before .before .loop) .inv .runs) _ _ (tried-passes _ _ _ _ _ _ ((c .before .before .before .before .before .before .before .before .before .before .before .before .before .before .before .before .try-at) .ensures) _ _ ((c .before .before .before .before .before .before .before .before .before .before .before .before .before .before .e) .given .1)) _ ((c .before .before .before .before .before .before .before .before .before .before .before .before .process-of) .ensures)) (acting _ _ _ _ _ _ _ _ ((c .before .before .before .before .before .before .before .before .before .before .before .before .before .before .before .before .before .loop) .inv .runs) _ _ (tried-passes _ _ _ _ _ _ ((c .before .before .before .before .before .before .before .before .before .before .before .before .before .before .before .before .try-at) .ensures) _ _ ((c .before .before .before .before .before .before .before .before .before .before .before .before .before .before .e) .given .1)) _ ((c .before .before .before .before .before .before .before .before .before .before .before .before .process-of) .ensures) (sym ((c .before .before .before .before .before .before .before .before .before .before .before .is-start) .ensures) ∙ (c .before .before .before .before .before .before .before .before .before .before .if1) .left)) (omega (arith, w .further, w .within, (c .before .before .before .before .before .before .before .before .before .before .before .before .before .before .before .before .before .before .before .before .before .pre) .2))
 
 mul-procs-2 : tie.Need-mul-procs-2 Inv-loop μ-loop
 mul-procs-2 c =
-    omega (arith, low _ _ _ _ _ _ _ _ _ ((c .before .before .before .before .before .before .before .before .before .before .before .before .before .before .before .before .before .before .before .before .before .loop) .inv) _ _ _ _ ((c .before .before .before .before .before .before .before .before .before .before .before .before .before .before .before .before .process-of) .ensures) ((c .before .before .before .before .before .before .before .before .before .before .before .before .before .before .before .has) .ensures) ((c .before .before .before .before .before .before .before .before .before .before .before .before .before .before .refusal) .ensures) ((c .before .before .before .before .before .before .before .before .before .before .before .before .before .if1) .left))
+    omega (arith, low _ _ _ _ _ _ _ _ ((c .before .before .before .before .before .before .before .before .before .before .before .before .before .before .before .before .before .before .loop) .inv .runs) _ _ (tried-passes _ _ _ _ _ _ ((c .before .before .before .before .before .before .before .before .before .before .before .before .before .before .before .before .before .try-at) .ensures) _ _ ((c .before .before .before .before .before .before .before .before .before .before .before .before .before .before .before .e) .given .1)) _ ((c .before .before .before .before .before .before .before .before .before .before .before .before .before .process-of) .ensures))
 
 array-set-from-procs-2 : tie.Need-array-set-from-procs-2 Inv-loop μ-loop
 array-set-from-procs-2 c =
-    low _ _ _ _ _ _ _ _ _ ((c .before .before .before .before .before .before .before .before .before .before .before .before .before .before .before .before .before .before .before .before .before .loop) .inv) _ _ _ _ ((c .before .before .before .before .before .before .before .before .before .before .before .before .before .before .before .before .process-of) .ensures) ((c .before .before .before .before .before .before .before .before .before .before .before .before .before .before .before .has) .ensures) ((c .before .before .before .before .before .before .before .before .before .before .before .before .before .before .refusal) .ensures) ((c .before .before .before .before .before .before .before .before .before .before .before .before .before .if1) .left)
+    low _ _ _ _ _ _ _ _ ((c .before .before .before .before .before .before .before .before .before .before .before .before .before .before .before .before .before .before .loop) .inv .runs) _ _ (tried-passes _ _ _ _ _ _ ((c .before .before .before .before .before .before .before .before .before .before .before .before .before .before .before .before .before .try-at) .ensures) _ _ ((c .before .before .before .before .before .before .before .before .before .before .before .before .before .before .before .e) .given .1)) _ ((c .before .before .before .before .before .before .before .before .before .before .before .before .before .process-of) .ensures)
 
-cut-requires : tie.Need-cut-requires Inv-loop μ-loop
-cut-requires c κs = search needs
+busy-after-requires : tie.Need-busy-after-requires Inv-loop μ-loop
+busy-after-requires c κs = search needs
 
 loop-less : tie.Need-loop-less Inv-loop μ-loop
 loop-less c =
-    let w = found-inside _ _ _ _ _ ((c .before .before .before .before .before .before .before .before .before .before .before .before .before .before .before .before .cut-at) .ensures) ((c .before .before .before .before .before .before .before .before .before .before .before .before .before .before .e) .given .1) in omega (arith, w .0, w .1)
+    let w = (tried-passes _ _ _ _ _ _ ((c .before .before .before .before .before .before .before .before .before .before .before .try-at) .ensures) _ _ ((c .before .before .before .before .before .before .before .before .before .e) .given .1)) in omega (arith, w .further, w .within)
 
 loop-again : tie.Need-loop-again Inv-loop μ-loop
 loop-again c =
-    (runs-start _ _ _ _ _ _ _ _ _ ((c .before .before .before .before .before .before .before .before .before .before .before .before .before .before .before .before .before .loop) .inv) _ _ (sym ((c .before .before .before .before .before .before .before .before .before .before .before .before .before .before .before .before .cut-at) .ensures .is) ∙ (c .before .before .before .before .before .before .before .before .before .before .before .before .before .before .e) .given .1) ((found-inside _ _ _ _ _ ((c .before .before .before .before .before .before .before .before .before .before .before .before .before .before .before .before .cut-at) .ensures) ((c .before .before .before .before .before .before .before .before .before .before .before .before .before .before .e) .given .1)) .0) ((found-inside _ _ _ _ _ ((c .before .before .before .before .before .before .before .before .before .before .before .before .before .before .before .before .cut-at) .ensures) ((c .before .before .before .before .before .before .before .before .before .before .before .before .before .before .e) .given .1)) .1) (refusal-here _ _ _ _ _ _ _ _ _ ((c .before .before .before .before .before .before .before .before .before .before .before .before .before .before .before .before .before .loop) .inv) _ _ _ _ ((c .before .before .before .before .before .before .before .before .before .before .before .before .process-of) .ensures) ((c .before .before .before .before .before .before .before .before .before .before .before .has) .ensures) ((c .before .before .before .before .before .before .before .before .before .before .refusal) .ensures) ∙ ((c .before .before .before .before .before .before .before .before .before .if1) .left)) _ ((c .before .before .before .before .before .before .before .before .before .before .before .before .process-of) .ensures) (inside _ _ _ _ _ _ _ _ _ ((c .before .before .before .before .before .before .before .before .before .before .before .before .before .before .before .before .before .loop) .inv) _ _ _ _ ((c .before .before .before .before .before .before .before .before .before .before .before .before .process-of) .ensures) ((c .before .before .before .before .before .before .before .before .before .before .before .has) .ensures) ((c .before .before .before .before .before .before .before .before .before .before .refusal) .ensures) ((c .before .before .before .before .before .before .before .before .before .if1) .left)) (sym ((c .before .before .before .before .before .before .before .before .is-start) .ensures) ∙ (c .before .before .before .before .before .before .before .if2) .taken) (free _ _ _ _ _ _ _ _ _ ((c .before .before .before .before .before .before .before .before .before .before .before .before .before .before .before .before .before .loop) .inv) _ _ _ _ ((c .before .before .before .before .before .before .before .before .before .before .before .before .process-of) .ensures) ((c .before .before .before .before .before .before .before .before .before .before .before .has) .ensures) ((c .before .before .before .before .before .before .before .before .before .before .refusal) .ensures) ((c .before .before .before .before .before .before .before .before .before .if1) .left) (sym ((c .before .before .before .before .before .before .before .before .is-start) .ensures) ∙ (c .before .before .before .before .before .before .before .if2) .taken)) (room _ _ _ _ _ _ _ _ _ ((c .before .before .before .before .before .before .before .before .before .before .before .before .before .before .before .before .before .loop) .inv) _ _ _ _ ((c .before .before .before .before .before .before .before .before .before .before .before .before .process-of) .ensures) ((c .before .before .before .before .before .before .before .before .before .before .before .has) .ensures) ((c .before .before .before .before .before .before .before .before .before .before .refusal) .ensures) ((c .before .before .before .before .before .before .before .before .before .if1) .left) (sym ((c .before .before .before .before .before .before .before .before .is-start) .ensures) ∙ (c .before .before .before .before .before .before .before .if2) .taken)) _ _ _ _ (procs-started ((c .before .before .before .before .before .before .before .before .before .before .before .before .before .before .before .before .before .loop) .procs) ((c .before .before .before .before .before .before .before .before .before .before .before .before .process-of) .result) _ _ _ _ _ ((c .before .before .before .before .started) .ensures) ((c .before .before .before .before .before .before .adds) .ensures) ((c .before .before .before .before .before .delta-of) .ensures)) ((c .before .before .before .put) .ensures) refl (kept-started _ _ _ _ _ _ _ _ _ _ _ _ _ ((c .before .adds2) .ensures) ((c .start-row) .ensures)))
+    runs-kept-start _ _ _ _ _ _ _ _ ((c .before .before .before .before .before .before .before .before .before .before .before .before .loop) .inv .runs) _ _ (tried-passes _ _ _ _ _ _ ((c .before .before .before .before .before .before .before .before .before .before .before .try-at) .ensures) _ _ ((c .before .before .before .before .before .before .before .before .before .e) .given .1)) _ ((c .before .before .before .before .before .before .before .process-of) .ensures) (sym ((c .before .before .before .before .before .before .is-start) .ensures) ∙ (c .before .before .before .before .before .if1) .taken) _ _ (ap (set ((c .before .before .before .before .before .before .before .before .before .before .before .before .loop) .procs) ((c .before .before .before .before .before .before .before .process-of) .result)) ((c .before .before .before .before .started) .ensures)) ((c .before .before .before .put) .ensures) _ _ _ ((c .before .before .before .before .before .before .before .before .before .before .before .before .loop) .inv .ledger) refl (kept-started _ _ _ _ _ _ _ _ _ _ _ _ _ ((c .before .adds) .ensures) ((c .start-row) .ensures))
 
 loop-less-2 : tie.Need-loop-less-2 Inv-loop μ-loop
 loop-less-2 c =
-    let w = found-inside _ _ _ _ _ ((c .before .before .before .before .before .before .before .before .before .before .before .before .before .before .before .before .before .before .before .before .before .before .before .cut-at) .ensures) ((c .before .before .before .before .before .before .before .before .before .before .before .before .before .before .before .before .before .before .before .before .before .e) .given .1) in omega (arith, w .0, w .1)
+    let w = (tried-passes _ _ _ _ _ _ ((c .before .before .before .before .before .before .before .before .before .before .before .before .before .before .before .before .before .before .try-at) .ensures) _ _ ((c .before .before .before .before .before .before .before .before .before .before .before .before .before .before .before .before .e) .given .1)) in omega (arith, w .further, w .within)
 
 loop-again-2 : tie.Need-loop-again-2 Inv-loop μ-loop
 unfolding idleRecord
 loop-again-2 c =
-    runs-step _ _ _ _ _ _ _ _ _ ((c .before .before .before .before .before .before .before .before .before .before .before .before .before .before .before .before .before .before .before .before .before .before .before .before .loop) .inv) _ _ (sym ((c .before .before .before .before .before .before .before .before .before .before .before .before .before .before .before .before .before .before .before .before .before .before .before .cut-at) .ensures .is) ∙ (c .before .before .before .before .before .before .before .before .before .before .before .before .before .before .before .before .before .before .before .before .before .e) .given .1) ((found-inside _ _ _ _ _ ((c .before .before .before .before .before .before .before .before .before .before .before .before .before .before .before .before .before .before .before .before .before .before .before .cut-at) .ensures) ((c .before .before .before .before .before .before .before .before .before .before .before .before .before .before .before .before .before .before .before .before .before .e) .given .1)) .0) ((found-inside _ _ _ _ _ ((c .before .before .before .before .before .before .before .before .before .before .before .before .before .before .before .before .before .before .before .before .before .before .before .cut-at) .ensures) ((c .before .before .before .before .before .before .before .before .before .before .before .before .before .before .before .before .before .before .before .before .before .e) .given .1)) .1) (refusal-here _ _ _ _ _ _ _ _ _ ((c .before .before .before .before .before .before .before .before .before .before .before .before .before .before .before .before .before .before .before .before .before .before .before .before .loop) .inv) _ _ _ _ ((c .before .before .before .before .before .before .before .before .before .before .before .before .before .before .before .before .before .before .before .process-of) .ensures) ((c .before .before .before .before .before .before .before .before .before .before .before .before .before .before .before .before .before .before .has) .ensures) ((c .before .before .before .before .before .before .before .before .before .before .before .before .before .before .before .before .before .refusal) .ensures) ∙ ((c .before .before .before .before .before .before .before .before .before .before .before .before .before .before .before .before .if1) .left)) _ ((c .before .before .before .before .before .before .before .before .before .before .before .before .before .before .before .before .before .before .before .process-of) .ensures) (inside _ _ _ _ _ _ _ _ _ ((c .before .before .before .before .before .before .before .before .before .before .before .before .before .before .before .before .before .before .before .before .before .before .before .before .loop) .inv) _ _ _ _ ((c .before .before .before .before .before .before .before .before .before .before .before .before .before .before .before .before .before .before .before .process-of) .ensures) ((c .before .before .before .before .before .before .before .before .before .before .before .before .before .before .before .before .before .before .has) .ensures) ((c .before .before .before .before .before .before .before .before .before .before .before .before .before .before .before .before .before .refusal) .ensures) ((c .before .before .before .before .before .before .before .before .before .before .before .before .before .before .before .before .if1) .left)) (sym ((c .before .before .before .before .before .before .before .before .before .before .before .before .before .before .before .is-start) .ensures) ∙ (c .before .before .before .before .before .before .before .before .before .before .before .before .before .before .if2) .left) (acting _ _ _ _ _ _ _ _ _ ((c .before .before .before .before .before .before .before .before .before .before .before .before .before .before .before .before .before .before .before .before .before .before .before .before .loop) .inv) _ _ _ _ ((c .before .before .before .before .before .before .before .before .before .before .before .before .before .before .before .before .before .before .before .process-of) .ensures) ((c .before .before .before .before .before .before .before .before .before .before .before .before .before .before .before .before .before .before .has) .ensures) ((c .before .before .before .before .before .before .before .before .before .before .before .before .before .before .before .before .before .refusal) .ensures) ((c .before .before .before .before .before .before .before .before .before .before .before .before .before .before .before .before .if1) .left) (sym ((c .before .before .before .before .before .before .before .before .before .before .before .before .before .before .before .is-start) .ensures) ∙ (c .before .before .before .before .before .before .before .before .before .before .before .before .before .before .if2) .left)) _ _ _ _ _ _ ((c .before .before .before .before .before .before .before .before .before .before .next) .ensures) ((c .before .before .before .take-step) .ensures) refl (set-done ((c .before .before .before .before .before .before .before .before .before .before .next) .result) _ _ _ ((c .before .if3) .taken) ((c .cut) .ensures))
-
-loop-less-3 : tie.Need-loop-less-3 Inv-loop μ-loop
-loop-less-3 c =
-    let w = found-inside _ _ _ _ _ ((c .before .before .before .before .before .before .before .before .before .before .before .before .before .before .before .before .before .before .before .before .before .before .cut-at) .ensures) ((c .before .before .before .before .before .before .before .before .before .before .before .before .before .before .before .before .before .before .before .before .e) .given .1) in omega (arith, w .0, w .1)
-
-loop-again-3 : tie.Need-loop-again-3 Inv-loop μ-loop
-unfolding idleRecord
-loop-again-3 c =
-    runs-step _ _ _ _ _ _ _ _ _ ((c .before .before .before .before .before .before .before .before .before .before .before .before .before .before .before .before .before .before .before .before .before .before .before .loop) .inv) _ _ (sym ((c .before .before .before .before .before .before .before .before .before .before .before .before .before .before .before .before .before .before .before .before .before .before .cut-at) .ensures .is) ∙ (c .before .before .before .before .before .before .before .before .before .before .before .before .before .before .before .before .before .before .before .before .e) .given .1) ((found-inside _ _ _ _ _ ((c .before .before .before .before .before .before .before .before .before .before .before .before .before .before .before .before .before .before .before .before .before .before .cut-at) .ensures) ((c .before .before .before .before .before .before .before .before .before .before .before .before .before .before .before .before .before .before .before .before .e) .given .1)) .0) ((found-inside _ _ _ _ _ ((c .before .before .before .before .before .before .before .before .before .before .before .before .before .before .before .before .before .before .before .before .before .before .cut-at) .ensures) ((c .before .before .before .before .before .before .before .before .before .before .before .before .before .before .before .before .before .before .before .before .e) .given .1)) .1) (refusal-here _ _ _ _ _ _ _ _ _ ((c .before .before .before .before .before .before .before .before .before .before .before .before .before .before .before .before .before .before .before .before .before .before .before .loop) .inv) _ _ _ _ ((c .before .before .before .before .before .before .before .before .before .before .before .before .before .before .before .before .before .before .process-of) .ensures) ((c .before .before .before .before .before .before .before .before .before .before .before .before .before .before .before .before .before .has) .ensures) ((c .before .before .before .before .before .before .before .before .before .before .before .before .before .before .before .before .refusal) .ensures) ∙ ((c .before .before .before .before .before .before .before .before .before .before .before .before .before .before .before .if1) .left)) _ ((c .before .before .before .before .before .before .before .before .before .before .before .before .before .before .before .before .before .before .process-of) .ensures) (inside _ _ _ _ _ _ _ _ _ ((c .before .before .before .before .before .before .before .before .before .before .before .before .before .before .before .before .before .before .before .before .before .before .before .loop) .inv) _ _ _ _ ((c .before .before .before .before .before .before .before .before .before .before .before .before .before .before .before .before .before .before .process-of) .ensures) ((c .before .before .before .before .before .before .before .before .before .before .before .before .before .before .before .before .before .has) .ensures) ((c .before .before .before .before .before .before .before .before .before .before .before .before .before .before .before .before .refusal) .ensures) ((c .before .before .before .before .before .before .before .before .before .before .before .before .before .before .before .if1) .left)) (sym ((c .before .before .before .before .before .before .before .before .before .before .before .before .before .before .is-start) .ensures) ∙ (c .before .before .before .before .before .before .before .before .before .before .before .before .before .if2) .left) (acting _ _ _ _ _ _ _ _ _ ((c .before .before .before .before .before .before .before .before .before .before .before .before .before .before .before .before .before .before .before .before .before .before .before .loop) .inv) _ _ _ _ ((c .before .before .before .before .before .before .before .before .before .before .before .before .before .before .before .before .before .before .process-of) .ensures) ((c .before .before .before .before .before .before .before .before .before .before .before .before .before .before .before .before .before .has) .ensures) ((c .before .before .before .before .before .before .before .before .before .before .before .before .before .before .before .before .refusal) .ensures) ((c .before .before .before .before .before .before .before .before .before .before .before .before .before .before .before .if1) .left) (sym ((c .before .before .before .before .before .before .before .before .before .before .before .before .before .before .is-start) .ensures) ∙ (c .before .before .before .before .before .before .before .before .before .before .before .before .before .if2) .left)) _ _ _ _ _ _ ((c .before .before .before .before .before .before .before .before .before .next) .ensures) ((c .before .before .take-step) .ensures) refl (set-on ((c .before .before .before .before .before .before .before .before .before .next) .result) _ _ ((c .if3) .left))
+    runs-kept-step _ _ _ _ _ _ _ _ ((c .before .before .before .before .before .before .before .before .before .before .before .before .before .before .before .before .before .before .before .loop) .inv .runs) _ _ (tried-passes _ _ _ _ _ _ ((c .before .before .before .before .before .before .before .before .before .before .before .before .before .before .before .before .before .before .try-at) .ensures) _ _ ((c .before .before .before .before .before .before .before .before .before .before .before .before .before .before .before .before .e) .given .1)) _ ((c .before .before .before .before .before .before .before .before .before .before .before .before .before .before .process-of) .ensures) (sym ((c .before .before .before .before .before .before .before .before .before .before .before .before .before .is-start) .ensures) ∙ (c .before .before .before .before .before .before .before .before .before .before .before .before .if1) .left) _ _ _ ((c .before .before .before .before .before .before .before .before .next) .ensures) _ _ refl ((c .busy-after) .ensures) _ _ ((c .before .before .before .before .before .before .before .before .before .before .before .before .before .before .before .before .before .before .before .loop) .inv .ledger) ((c .before .take-step) .ensures)
 
 pub run-spec : {M : Type 1} → statement M
 run-spec =
@@ -174,27 +143,21 @@ run-spec =
     idle-requires
     empty-requires
     loop-holds
-    cut-at-requires
+    try-at-requires
     enum-told
     array-read-t28
     returns
-    enum-known-place
+    enum-known-number
     refused-requires
     returns-2
     enum-known-e
     process-of-requires
-    has-requires
-    refusal-requires
-    refused-requires-2
-    returns-3
     is-start-requires
-    adds-requires
-    delta-of-requires
     started-requires
     mul-procs
     array-set-from-procs
     put-requires
-    adds-requires-2
+    adds-requires
     start-row-requires
     add-m
     mul-r
@@ -203,10 +166,8 @@ run-spec =
     take-step-requires
     mul-procs-2
     array-set-from-procs-2
-    cut-requires
+    busy-after-requires
     loop-less
     loop-again
     loop-less-2
-    loop-again-2
-    loop-less-3
-    loop-again-3)
+    loop-again-2)

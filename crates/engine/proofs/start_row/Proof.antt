@@ -6,7 +6,7 @@ use mathlib.Core.Path.{_∙_}
 use mathlib.Core.Bool.{true, false}
 use Rattle.sets.specs.Processes.{isIn}
 use Rattle.sets.proofs.Laws.{count-le}
-use Rattle.engine.proofs.Started.{kind-of, fresh-row}
+use Rattle.engine.proofs.Fresh.{kind-of, fresh-row}
 use Rattle.engine.proofs.start_row.Statement.{statement}
 use Rattle.engine.proofs.start_row.Tie as tie
 

@@ -1,7 +1,7 @@
 -- The row of a started operation, by its kind and the count of the busy set.
 use Prim.Native.Nat.{ℕ}
-use mathlib.Core.Path.{_≡_, refl, ap₂, _∙_}
-use mathlib.Core.Bool.{Bool, true, false, cond}
+use mathlib.Core.Path.{_≡_, ap₂, _∙_}
+use mathlib.Core.Bool.{Bool, cond}
 use Rattle.sets.specs.Processes.{countBelow}
 use Rattle.meaning.specs.Run.{kindOf}
 use Rattle.rows.specs.Rows.{withRow, freshNumbers}

@@ -1,0 +1,54 @@
+-- `try_at` meets its contract: each way out is one of what a record comes to.
+use Rattle.engine.proofs.Tries.{tries-end, tries-broken, tries-refused, tries-passes}
+use borrow.Author.Needs.{needs}
+use Rattle.engine.proofs.try_at.Statement.{statement}
+use Rattle.engine.proofs.try_at.Tie as tie
+
+cut-at-requires : tie.Need-cut-at-requires
+cut-at-requires c κs = search needs
+
+enum-told : tie.Need-enum-told
+enum-told c = search needs
+
+enum-known-place : tie.Need-enum-known-place
+enum-known-place c = search needs
+
+enum-known-e : tie.Need-enum-known-e
+enum-known-e c = search needs
+
+process-of-requires : tie.Need-process-of-requires
+process-of-requires c κs = search needs
+
+has-requires : tie.Need-has-requires
+has-requires c κs = search needs
+
+refusal-requires : tie.Need-refusal-requires
+refusal-requires c κs = search needs
+
+returns : tie.Need-returns
+returns c = tries-end _ _ _ _ _ _ (c .before .before .cut-at .ensures) (c .enum-told .given .1)
+
+returns-2 : tie.Need-returns-2
+returns-2 c = tries-broken _ _ _ _ _ _ _ (c .before .before .before .cut-at .ensures) (c .before .place .given .1)
+
+returns-3 : tie.Need-returns-3
+returns-3 c = tries-refused _ _ _ _ _ _ _ _ _ _ _ (c .before .before .before .before .before .before .before .cut-at .ensures) (c .before .before .before .before .before .e .given .1) (c .before .before .before .process-of .ensures) (c .before .before .has .ensures) (c .before .refusal .ensures) (c .if1 .taken)
+
+returns-4 : tie.Need-returns-4
+returns-4 c = tries-passes _ _ _ _ _ _ _ _ _ _ _ (c .before .before .before .before .before .before .before .cut-at .ensures) (c .before .before .before .before .before .e .given .1) (c .before .before .before .process-of .ensures) (c .before .before .has .ensures) (c .before .refusal .ensures) (c .if1 .left)
+
+pub try-at-spec : {M : Type 1} → statement M
+try-at-spec =
+    tie.close
+    (tie.spec
+    cut-at-requires
+    enum-told
+    enum-known-place
+    enum-known-e
+    process-of-requires
+    has-requires
+    refusal-requires
+    returns
+    returns-2
+    returns-3
+    returns-4)

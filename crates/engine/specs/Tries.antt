@@ -1,0 +1,39 @@
+-- What trying the record at a place comes to, by what the run keeps.
+use Prim.Native.Nat.{ℕ, _+_, _≤_, _<_}
+use mathlib.Core.Path.{_≡_}
+use mathlib.Core.Bool.{Bool, cond}
+use mathlib.Core.List.{List}
+use lib.ListN.{length}
+use Rattle.recording.specs.Record.{cutAt}
+use Rattle.recording.specs.declared.Event.{Event}
+use Rattle.recording.specs.declared.Cut.the-variants.{Found, Broken, End as NoMore}
+use Rattle.sets.specs.Processes.{without, isIn}
+use Rattle.meaning.specs.Run.{processOf}
+use Rattle.rules.specs.Rules.{refusalBy}
+use Rattle.engine.specs.declared.Tried.{Tried}
+use Rattle.engine.specs.declared.Tried.the-variants.{End, Refused, Passes}
+
+-- an event stands at the place, with the place of the next record and its refusal's number
+pub record Stands (s : List ℕ) (h set m at : ℕ) (e : Event) (next n : ℕ) : Type 0 where
+  pub found : cutAt s at ≡ Found e next
+  pub further : at + 3 ≤ next
+  pub within : next ≤ length s
+  pub number : n ≡ refusalBy h e (isIn set (processOf e)) m
+
+-- a refusal: by rule 6, or of an event
+pub data Stops (s : List ℕ) (h set m at n place : ℕ) : Type 0 where
+  breaks : n ≡ 6 → cutAt s at ≡ Broken place → at < length s → Stops s h set m at n place
+  refuses : {e : Event} {next : ℕ} → Stands s h set m at e next n → (n ≡ 0 → ⊥) → place ≡ at → Stops s h set m at n place
+
+pub record Stopped (s : List ℕ) (h set m at n place : ℕ) : Type 0 where
+  pub why : Stops s h set m at n place
+  pub inside : place ≤ length s
+
+unfoldable pub Tries : List ℕ → ℕ → ℕ → ℕ → ℕ → Tried → Type 0
+Tries s h set m at End = cutAt s at ≡ NoMore
+Tries s h set m at (Refused n place) = Stopped s h set m at n place
+Tries s h set m at (Passes e next) = Stands s h set m at e next 0
+
+-- who is busy after a step of p: p no more where it is idle now
+abbrev pub busyThen : Bool → ℕ → (ℕ → Bool) → ℕ → Bool
+busyThen done p s = cond done (without p s) s
