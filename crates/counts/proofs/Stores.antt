@@ -6,7 +6,7 @@ use native.Mathlib.Omega.{arith}
 use lib.ListN.{length, getD, set}
 use Rattle.meaning.specs.Steps.{upd}
 use Rattle.arrays.specs.Arrays.{asFun, asRows, between}
-use Rattle.arrays.proofs.Laws.{fun-set, rows-set, upd-same, upd-other, upd-is}
+use Rattle.arrays.proofs.Laws.{fun-set, upd-same, upd-other, upd-is}
 use Rattle.counts.specs.Counts.{levels, countsOf, wrote, readOver, storedOver}
 
 module _ (written : List ℕ) (counts : List (List ℕ)) where
@@ -27,37 +27,35 @@ module _ (written : List ℕ) (counts : List (List ℕ)) where
       other zero n = absurd (n refl)
       other (suc j) n = refl
 
-  levels-node : (l : ℕ) (row : List ℕ) → l < length counts → levels written (set counts l row) ≡ upd (levels written counts) (suc l) (asFun row)
+  levels-node : (counts′ : List (List ℕ)) (l : ℕ) (row : ℕ → ℕ) → asRows counts′ ≡ upd (asRows counts) l row → levels written counts′ ≡ upd (levels written counts) (suc l) row
   unfolding levels
-  levels-node l row h = upd-is (levels written counts) (suc l) (asFun row) (levels written (set counts l row)) at other
+  levels-node counts′ l row e = upd-is (levels written counts) (suc l) row (levels written counts′) at other
     where
-      at : asRows (set counts l row) l ≡ asFun row
-      at = ap (λ (f : ℕ → ℕ → ℕ). f l) (rows-set counts l row h) ∙ upd-same (asRows counts) l (asFun row)
+      at : asRows counts′ l ≡ row
+      at = ap (λ (f : ℕ → ℕ → ℕ). f l) e ∙ upd-same (asRows counts) l row
 
-      other : (j : ℕ) → (j ≡ suc l → ⊥) → levels written (set counts l row) j ≡ levels written counts j
+      other : (j : ℕ) → (j ≡ suc l → ⊥) → levels written counts′ j ≡ levels written counts j
       other zero n = refl
-      other (suc j) n = ap (λ (f : ℕ → ℕ → ℕ). f j) (rows-set counts l row h) ∙ upd-other (asRows counts) l (asFun row) j (λ e. n (ap suc e))
+      other (suc j) n = ap (λ (f : ℕ → ℕ → ℕ). f j) e ∙ upd-other (asRows counts) l row j (λ d. n (ap suc d))
 
 module _ (counts : List (List ℕ)) (written : List ℕ) (read : List (List ℕ)) where
   pub leaf-stored : (p : ℕ) → p < length written → countsOf counts (set written p (asFun written p + 1)) read ≡ wrote p (countsOf counts written read)
   unfolding countsOf wrote levels
   leaf-stored p h = let e = levels-leaf written counts p (asFun written p + 1) h in λ i. record { inNode = e i; read = asRows read }
 
-  pub read-stored : (p l lo hi : ℕ) (row : List ℕ) (child : ℕ → ℕ)
-      → p < length read
+  pub read-stored : (p l lo hi : ℕ) (read′ : List (List ℕ)) (child : ℕ → ℕ)
       → child ≡ levels written counts l
-      → asFun row ≡ between lo hi child (asRows read p)
-      → countsOf counts written (set read p row) ≡ readOver p l lo hi (countsOf counts written read)
+      → asRows read′ ≡ upd (asRows read) p (between lo hi child (asRows read p))
+      → countsOf counts written read′ ≡ readOver p l lo hi (countsOf counts written read)
   unfolding countsOf readOver
-  read-stored p l lo hi row child h is e =
-      let r = rows-set read p row h ∙ ap (upd (asRows read) p) (rw is at e) in
+  read-stored p l lo hi read′ child is e =
+      let r = rw is at e in
       λ i. record { inNode = levels written counts; read = r i }
 
-  pub node-stored : (p l lo hi : ℕ) (row : List ℕ)
-      → l < length counts
-      → asFun row ≡ between lo hi (λ q. max (asRows counts l q) (asRows read p q)) (asRows counts l)
-      → countsOf (set counts l row) written read ≡ storedOver p (suc l) lo hi (countsOf counts written read)
+  pub node-stored : (p l lo hi : ℕ) (counts′ : List (List ℕ))
+      → asRows counts′ ≡ upd (asRows counts) l (between lo hi (λ q. max (asRows counts l q) (asRows read p q)) (asRows counts l))
+      → countsOf counts′ written read ≡ storedOver p (suc l) lo hi (countsOf counts written read)
   unfolding countsOf storedOver levels
-  node-stored p l lo hi row h e =
-      let n = levels-node written counts l row h ∙ ap (upd (levels written counts) (suc l)) e in
+  node-stored p l lo hi counts′ e =
+      let n = levels-node written counts counts′ l _ e in
       λ i. record { inNode = n i; read = asRows read }

@@ -2,6 +2,7 @@
 use Prim.Native.Nat.{ℕ, zero, suc, _+_, _-_, _*_, _/_, _%_, _^_, max, _≤_, _<_}
 use mathlib.Core.Bool.{Bool, cond, _&&_}
 use mathlib.Core.List.{List}
+use lib.ListN.{length}
 use lib.Dec.{leb, eqb}
 use Rattle.meaning.specs.Steps.{upd}
 use Rattle.arrays.specs.Arrays.{asFun, asRows, between}
@@ -58,8 +59,9 @@ unfoldable pub countsAfter : ℕ → ℕ → Bool → Counts → Counts
 countsAfter p s stored c =
     cond (eqb s 2) (wrote p c) (cond (leb 3 s) (attempted p (levelAt s) (positionAt s) stored c) c)
 
--- a process, a step number of the highest tree at most, and room for one more leaf write
-pub record CanCount (p s : ℕ) (written : List ℕ) : Type 0 where
+-- a process with a row of its own, a step number of the highest tree at most, and room for one more leaf write
+pub record CanCount (p s : ℕ) (written : List ℕ) (read : List (List ℕ)) : Type 0 where
   pub process : p < 64
+  pub row : p < length read
   pub step : s ≤ 50
   pub room : asFun written p < 65535

@@ -3,50 +3,14 @@ ghost use Prim.Native.Nat.{ℕ, suc, _+_, _^_, _≤_, _<_, max};
 ghost use mathlib.Core.List.{List, []};
 ghost use mathlib.Core.Path.{_≡_};
 ghost use lib.ListN.{length, getD};
-ghost use Rattle.arrays.specs.Arrays.{asFun, between};
+ghost use Rattle.meaning.specs.Steps.{upd};
+ghost use Rattle.arrays.specs.Arrays.{asFun, asRows, between};
 ghost use Rattle.counts.specs.Counts.{levels, countsOf, firstUnder, readOver, storedOver, attempted, countsAfter, CanCount};
-
-// The counts of from for the processes lo to hi - 1, those of to for the others.
-fn copied(to: [u16; 64], from: [u16; 64], lo: usize, hi: usize) -> [u16; 64]
-    requires { ⌜ hi ≤ 64 ⌝ }
-    ensures { λ r. ⌜ asFun r ≡ between lo hi (asFun from) (asFun to) ⌝ }
-{
-    let mut r = to;
-    let source = from;
-    for q in lo..hi {
-        r[q] = source[q];
-    }
-    r
-}
 
 fn larger(a: u16, b: u16) -> u16
     ensures { λ r. ⌜ r ≡ max a b ⌝ }
 {
     if a < b { b } else { a }
-}
-
-// The greater count of the two for the processes lo to hi - 1, that of to for the others.
-fn raised(to: [u16; 64], from: [u16; 64], lo: usize, hi: usize) -> [u16; 64]
-    requires { ⌜ hi ≤ 64 ⌝ }
-    ensures { λ r. ⌜ asFun r ≡ between lo hi (λ q. max (asFun to q) (asFun from q)) (asFun to) ⌝ }
-{
-    let mut r = to;
-    let source = from;
-    for q in lo..hi {
-        r[q] = larger(r[q], source[q]);
-    }
-    r
-}
-
-// The counts at a level: the leaves' own at 0.
-fn at_level(counts: &[[u16; 64]; 6], written: &[u16; 64], l: usize) -> [u16; 64]
-    requires { ⌜ l ≤ 6 ⌝ }
-    ensures { λ r. ⌜ asFun r ≡ levels (now (written .entry)) (now (counts .entry)) l ⌝ }
-{
-    if l == 0 {
-        return *written;
-    }
-    counts[l - 1]
 }
 
 // The row of counts at a level above the leaves, by value.
@@ -57,7 +21,7 @@ pub fn row_of(counts: [[u16; 64]; 6], level: usize) -> [u16; 64]
     counts[level]
 }
 
-// The three below do nothing: through a reference a proof does not know an array's length, and learns it by their contracts.
+// The two below do nothing: through a reference a proof does not know an array's length, and learns it by their contracts.
 fn sixty_four_counts(a: [u16; 64]) -> bool
     ensures { λ r. ⌜ length a ≡ 64 ⌝ }
 {
@@ -70,47 +34,52 @@ fn six_rows(a: [[u16; 64]; 6]) -> bool
     true
 }
 
-fn sixty_four_rows(a: [[u16; 64]; 64]) -> bool
-    ensures { λ r. ⌜ length a ≡ 64 ⌝ }
+// The counts of from in row p of read, for the processes lo to hi - 1.
+fn copy_row(read: &mut [[u16; 64]], p: usize, from: &[u16; 64], lo: usize, hi: usize)
+    requires { ⌜ (p < 64) × (p < length (now read)) ⌝ }
+    requires { ⌜ hi ≤ 64 ⌝ }
+    ensures { λ r. ⌜ asRows (now (read .exit)) ≡ upd (asRows (now (read .entry))) p (between lo hi (asFun (now (from .entry))) (asRows (now (read .entry)) p)) ⌝ }
 {
-    true
+    sixty_four_counts(read[p]);
+    for q in lo..hi {
+        read[p][q] = from[q];
+    }
 }
 
 // The read of a child at level l by process p, for the processes lo to hi - 1.
 fn read_child(
     counts: &[[u16; 64]; 6],
     written: &[u16; 64],
-    read: &mut [[u16; 64]; 64],
+    read: &mut [[u16; 64]],
     p: usize,
     l: usize,
     lo: usize,
     hi: usize,
 )
-    requires { ⌜ p < 64 ⌝ }
+    requires { ⌜ (p < 64) × (p < length (now read)) ⌝ }
     requires { ⌜ l ≤ 6 ⌝ }
     requires { ⌜ hi ≤ 64 ⌝ }
     ensures { λ r. ⌜ countsOf (now (counts .entry)) (now (written .entry)) (now (read .exit)) ≡ readOver p l lo hi (countsOf (now (counts .entry)) (now (written .entry)) (now (read .entry))) ⌝ }
 {
-    sixty_four_rows(*read);
-    read[p] = copied(read[p], at_level(counts, written, l), lo, hi);
+    if l == 0 {
+        copy_row(read, p, written, lo, hi);
+    } else {
+        copy_row(read, p, &counts[l - 1], lo, hi);
+    }
 }
 
 // The successful SC of process p at a node at level l + 1, for the processes lo to hi - 1.
-fn store(
-    counts: &mut [[u16; 64]; 6],
-    read: &[[u16; 64]; 64],
-    p: usize,
-    l: usize,
-    lo: usize,
-    hi: usize,
-)
-    requires { ⌜ p < 64 ⌝ }
+fn store(counts: &mut [[u16; 64]; 6], read: &[[u16; 64]], p: usize, l: usize, lo: usize, hi: usize)
+    requires { ⌜ (p < 64) × (p < length (now read)) ⌝ }
     requires { ⌜ l < 6 ⌝ }
     requires { ⌜ hi ≤ 64 ⌝ }
     ensures { λ r. ⌜ ((w : List ℕ) → countsOf (now (counts .exit)) w (now (read .entry)) ≡ storedOver p (suc l) lo hi (countsOf (now (counts .entry)) w (now (read .entry)))) ⌝ }
 {
     six_rows(*counts);
-    counts[l] = raised(counts[l], read[p], lo, hi);
+    sixty_four_counts(counts[l]);
+    for q in lo..hi {
+        counts[l][q] = larger(counts[l][q], read[p][q]);
+    }
 }
 
 // How many leaves lie under a node at level l.
@@ -134,13 +103,13 @@ fn first_under(l: usize, p: usize) -> usize
 fn attempt(
     counts: &mut [[u16; 64]; 6],
     written: &[u16; 64],
-    read: &mut [[u16; 64]; 64],
+    read: &mut [[u16; 64]],
     p: usize,
     l: usize,
     i: u32,
     stored: bool,
 )
-    requires { ⌜ p < 64 ⌝ }
+    requires { ⌜ (p < 64) × (p < length (now read)) ⌝ }
     requires { ⌜ l < 6 ⌝ }
     ensures { λ r. ⌜ countsOf (now (counts .exit)) (now (written .entry)) (now (read .exit)) ≡ attempted p l i stored (countsOf (now (counts .entry)) (now (written .entry)) (now (read .entry))) ⌝ }
 {
@@ -163,12 +132,12 @@ fn attempt(
 pub fn take_in(
     counts: &mut [[u16; 64]; 6],
     written: &mut [u16; 64],
-    read: &mut [[u16; 64]; 64],
+    read: &mut [[u16; 64]],
     p: usize,
     s: u32,
     stored: bool,
 )
-    requires { ⌜ CanCount p s (now written) ⌝ }
+    requires { ⌜ CanCount p s (now written) (now read) ⌝ }
     ensures { λ r. ⌜ countsOf (now (counts .exit)) (now (written .exit)) (now (read .exit)) ≡ countsAfter p s stored (countsOf (now (counts .entry)) (now (written .entry)) (now (read .entry))) ⌝ }
 {
     if s == 2 {

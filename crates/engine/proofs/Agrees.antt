@@ -38,6 +38,7 @@ pub record Agrees (h at : ℕ) (st : State) (vals links : List ℕ) (ps : List R
   pub operations : m ≡ st .operations
   -- each record takes three bytes at least
   pub place : 3 * length (st .history) + 6 ≤ at
+  pub started : 3 * m + 6 ≤ at
 
 pub record Ledger (h : ℕ) (st : State) (k : Kept) : Type 0 where
   pub keeps : Keeps h st k
@@ -124,6 +125,7 @@ module _ (h at : ℕ) (st : State) (vals links : List ℕ) (ps : List Record) (s
           busySet = es ∙ ap (busyThen (eqb (r .step) 0) p) (A .busySet) ∙ ap (λ (x : Process). busyThen (eqb (x .step) 0) p (busy (st .process))) rec ∙ busy-step (st .process) p (recordAfter h p st) busy-now;
           operations = A .operations;
           place = omega (arith, A .place);
+          started = omega (arith, A .started);
         }
       where
         busy-now : busy (st .process) p ≡ true
@@ -185,6 +187,7 @@ module _ (h at : ℕ) (st : State) (vals links : List ℕ) (ps : List Record) (s
           busySet = set-now;
           operations = ap suc (A .operations);
           place = omega (arith, A .place);
+          started = omega (arith, A .started);
         }
       where
         procs-now : procsOf ps′ ≡ upd (st .process) p (started (st .operations) adds delta)

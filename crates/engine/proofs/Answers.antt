@@ -2,14 +2,14 @@
 use Prim.Native.Nat.{ℕ, zero, suc, _+_, _*_, _≤_, _<_}
 use native.Mathlib.Omega.{arith}
 use mathlib.Core.Path.{_≡_, refl, sym, ap, _∙_}
-use mathlib.Core.Bool.{true, false}
+use mathlib.Core.Bool.{Bool, true, false}
 use mathlib.Core.List.{List, _++_}
 use lib.ListN.{length, drop}
 use lib.Dec.{leb}
 use borrow.Author.Tests.{le-leb, lt-leb}
 use Rattle.meaning.specs.Layout.{headRefusal, height, recordsOf}
 use Rattle.meaning.specs.Run.{initial, Outcome, refused, accepted, unless, run, outcome}
-use Rattle.meaning.specs.Report.{reportBytes, needed, passes, answerWith, bufferWith, reportAnswer, reportBuffer}
+use Rattle.meaning.specs.Report.{reportBytes, needed, passes, answerWith, bufferWith, reportAnswer, reportBuffer, checkWith}
 use Rattle.rows.specs.Rows.{laidReport}
 use Rattle.rows.proofs.Laws.{report-bytes}
 use Rattle.engine.specs.Ends.{answerOf, Ends, refuses, accepts, Reports}
@@ -27,6 +27,13 @@ pub head-passed : (s : List ℕ) (k : ℕ) → k ≡ headRefusal s → k ≡ 0 �
 unfolding outcome unless
 head-passed s k e z = ap (λ (n : ℕ). unless n 0 (run (height s) initial (recordsOf s))) (sym e ∙ z)
 
+-- ---- check
+
+pub check-ends : (asked : Bool) (h size : ℕ) (rows : ℕ → ℕ) (r : Ended) {o : Outcome} → Ends asked h size rows r o → record { number = r .number; place = r .place } ≡ checkWith o
+unfolding checkWith passes
+check-ends asked h size rows r (refuses a b c) = λ i. record { number = a i; place = b i }
+check-ends asked h size rows r (accepts a b c d e l f g) = λ i. record { number = a i; place = b i }
+
 -- ---- report
 
 -- the promise, where the outcome is known
@@ -34,29 +41,29 @@ pub reports : (s before after : List ℕ) (r : Reply) (o : Outcome) → outcome 
 unfolding reportAnswer reportBuffer
 reports s before after r o e a b = record { answer = a ∙ ap (λ (x : Outcome). answerWith x (length before)) (sym e); buffer = b ∙ ap (λ (x : Outcome). bufferWith (height s) x before) (sym e) }
 
-module _ (s buf : List ℕ) (h : ℕ) (rows : ℕ → ℕ) (r : Ended) (same : h ≡ height s) where
-  pub report-refused : {o : Outcome} → outcome s ≡ o → Ends h rows r o → (r .number ≡ 0 → ⊥) → Reports s buf buf (record { number = r .number; place = r .place })
+module _ (s buf : List ℕ) (h size : ℕ) (rows : ℕ → ℕ) (r : Ended) (same : h ≡ height s) where
+  pub report-refused : {o : Outcome} → outcome s ≡ o → Ends true h size rows r o → (r .number ≡ 0 → ⊥) → Reports s buf buf (record { number = r .number; place = r .place })
   unfolding answerWith bufferWith answerOf
   report-refused {o} e (refuses a b c) n = reports s buf buf _ o e (λ i. record { number = a i; place = b i }) refl
-  report-refused e (accepts a b c d f g j) n = absurd (n a)
+  report-refused e (accepts a b c d f q g j) n = absurd (n a)
 
-  pub report-short : {o : Outcome} → outcome s ≡ o → Ends h rows r o → r .number ≡ 0 → length buf < 9 + 20 * r .operations → Reports s buf buf (record { number = 11; place = 9 + 20 * r .operations })
+  pub report-short : {o : Outcome} → outcome s ≡ o → Ends true h size rows r o → r .number ≡ 0 → length buf < 9 + 20 * r .operations → Reports s buf buf (record { number = 11; place = 9 + 20 * r .operations })
   unfolding answerWith bufferWith answerOf needed
   report-short e (refuses a b c) z l = absurd (omega (arith, a, c))
-  report-short e (accepts {st} a b c d f g j) z l =
+  report-short e (accepts {st} a b c d f q g j) z l =
       let long : leb (9 + 20 * st .operations) (length buf) ≡ false = lt-leb (9 + 20 * st .operations) (length buf) (omega arith) in
       reports s buf buf _ (accepted st) e (rw long (ap (λ (m : ℕ). record { number = 11; place = 9 + 20 * m }) c)) (rw long)
 
-  pub report-laid : (after : List ℕ) {o : Outcome} → outcome s ≡ o → Ends h rows r o → r .number ≡ 0 → 9 + 20 * r .operations ≤ length buf → after ≡ laidReport (r .operations) (r .counter) rows buf
+  pub report-laid : (after : List ℕ) {o : Outcome} → outcome s ≡ o → Ends true h size rows r o → r .number ≡ 0 → 9 + 20 * r .operations ≤ length buf → after ≡ laidReport (r .operations) (r .counter) rows buf
       → Reports s buf after (record { number = 0; place = 0 })
   unfolding answerWith bufferWith answerOf needed passes
   report-laid after e (refuses a b c) z l laid = absurd (omega (arith, a, c))
-  report-laid after e (accepts {st} a b c d f g j) z l laid =
+  report-laid after e (accepts {st} a b c d f q g j) z l laid =
       let long : leb (9 + 20 * st .operations) (length buf) ≡ true = le-leb (9 + 20 * st .operations) (length buf) (omega arith) in
       reports s buf after _ (accepted st) e (rw long)
       (rw long
-      (laid ∙ (λ i. laidReport (c i) (d i) rows buf) ∙ report-bytes h st rows (λ i k x y. g i k x y) j buf ∙ ap (λ (x : ℕ). reportBytes x st ++ drop (9 + 20 * st .operations) buf) same))
+      (laid ∙ (λ i. laidReport (c i) (d i) rows buf) ∙ report-bytes h st rows (λ i k x y. g refl i k x y) j buf ∙ ap (λ (x : ℕ). reportBytes x st ++ drop (9 + 20 * st .operations) buf) same))
 
-pub few-operations : (h : ℕ) (rows : ℕ → ℕ) (r : Ended) {o : Outcome} → Ends h rows r o → r .number ≡ 0 → r .operations ≤ 1024
-few-operations h rows r (refuses a b c) z = absurd (omega (arith, a, c))
-few-operations h rows r (accepts a b c d e f g) z = omega arith
+pub few-operations : (h size : ℕ) (rows : ℕ → ℕ) (r : Ended) {o : Outcome} → Ends true h size rows r o → r .number ≡ 0 → (r .operations ≤ 1024) × (3 * r .operations + 6 ≤ size)
+few-operations h size rows r (refuses a b c) z = absurd (omega (arith, a, c))
+few-operations h size rows r (accepts a b c d e l f g) z = (omega arith, omega arith)

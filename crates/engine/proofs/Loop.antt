@@ -4,8 +4,7 @@ use native.Mathlib.Omega.{arith}
 use mathlib.Core.Path.{_≡_, refl, ap, _∙_, fun-ext}
 use mathlib.Core.Bool.{Bool}
 use mathlib.Core.List.{List, []}
-use lib.ListN.{getD, replicate, length-replicate}
-use Rattle.recording.specs.declared.Event.{Event}
+use lib.ListN.{length, getD, replicate, length-replicate}
 use Rattle.sets.specs.Processes.{nobody, isIn}
 use Rattle.sets.proofs.Laws.{isIn-empty}
 use Rattle.arrays.specs.Arrays.{asFun, asRows}
@@ -23,7 +22,6 @@ use Rattle.ledger.proofs.Good.{good-initial}
 use Rattle.ledger.proofs.Keeps.{keeps-initial}
 use Rattle.ledger.proofs.Total.{total-initial}
 use Rattle.keeping.specs.Keeping.{keptOf}
-use Rattle.engine.specs.Ends.{addsOf}
 use Rattle.engine.proofs.Agrees.{Agrees, procsOf}
 use Rattle.engine.proofs.Runs.{Runs, RunsKept, runs-begin, runs-kept-begin}
 
@@ -41,7 +39,7 @@ all-same (suc n) zero a = refl
 all-same (suc n) (suc p) a = all-same n p a
 
 -- over the arrays' sizes
-module _ (s : List ℕ) (h : ℕ) (a : Record) (set₀ : ℕ) (low : 1 ≤ h) (high : h ≤ 6) (rests : a ≡ idleRecord) (none : isIn set₀ ≡ nobody) (v l n : ℕ) (all : n ≡ 64) where
+module _ (s : List ℕ) (h : ℕ) (a : Record) (set₀ : ℕ) (low : 1 ≤ h) (high : h ≤ 6) (enough : 6 ≤ length s) (rests : a ≡ idleRecord) (none : isIn set₀ ≡ nobody) (v l n : ℕ) (all : n ≡ 64) where
   no-values : memoryOf (replicate v 0) (replicate l 0) ≡ initial .memory
   unfolding memoryOf initial
   no-values = λ i. record { value = fun-zeros v i; linked = λ x. (ap (λ (f : ℕ → ℕ). isIn (f x)) (fun-zeros l) ∙ isIn-empty) i }
@@ -65,14 +63,15 @@ module _ (s : List ℕ) (h : ℕ) (a : Record) (set₀ : ℕ) (low : 1 ≤ h) (h
         busySet = none-busy;
         operations = refl;
         place = omega arith;
+        started = omega arith;
       }
 
   pub begins : Runs s h 6 (replicate v 0) (replicate l 0) (replicate n a) set₀ 0
-  begins = runs-begin s h _ _ _ set₀ agreed
+  begins = runs-begin s h _ _ _ set₀ enough agreed
 
-  module _ (rows : List ℕ) (c w r q : ℕ) where
+  module _ (asked : Bool) (read : List (List ℕ)) (queue turns rows : List ℕ) (c w : ℕ) where
     abbrev nothing-kept : Kept
-    nothing-kept = keptOf (replicate c (replicate w 0)) (replicate w 0) (replicate r (replicate w 0)) (replicate q 0) (replicate q 0) rows (record { waiting = 0; rank = 0 })
+    nothing-kept = keptOf (replicate c (replicate w 0)) (replicate w 0) read queue turns rows (record { waiting = 0; rank = 0 })
 
     no-counts : (i j : ℕ) → nothing-kept .counts .inNode i j ≡ 0
     unfolding keptOf countsOf levels
@@ -87,17 +86,16 @@ module _ (s : List ℕ) (h : ℕ) (a : Record) (set₀ : ℕ) (low : 1 ≤ h) (h
     unfolding keptOf
     none-listed = refl
 
-    pub begins-kept : RunsKept s h 6 (replicate v 0) (replicate l 0) (replicate n a) set₀ 0 nothing-kept
+    pub begins-kept : RunsKept s h 6 (replicate v 0) (replicate l 0) (replicate n a) set₀ 0 asked nothing-kept
     begins-kept =
-        runs-kept-begin s h _ _ _ set₀ _ agreed
+        runs-kept-begin s h _ _ _ set₀ asked _ enough agreed
         (record { keeps = keeps-initial h nothing-kept no-counts no-queue none-listed; total = total-initial nothing-kept no-queue none-listed })
 
 -- ---- what a turn leaves
 
-pub kept-started : (counts : List (List ℕ)) (written : List ℕ) (read : List (List ℕ)) (queue turns rows rows′ : List ℕ) (l : Listed) (m p : ℕ) (e : Event) (adds : Bool) (count : ℕ)
-    → adds ≡ addsOf e → asFun rows′ ≡ withRow (asFun rows) m (freshNumbers p (kindOf adds) count)
-    → keptOf counts written read queue turns rows′ l ≡ keptStart m p (kindOf (addsOf e)) count (keptOf counts written read queue turns rows l)
+pub kept-started : (counts : List (List ℕ)) (written : List ℕ) (read : List (List ℕ)) (queue turns rows rows′ : List ℕ) (l : Listed) (m p : ℕ) (adds : Bool) (count : ℕ)
+    → asFun rows′ ≡ withRow (asFun rows) m (freshNumbers p (kindOf adds) count)
+    → keptOf counts written read queue turns rows′ l ≡ keptStart m p (kindOf adds) count (keptOf counts written read queue turns rows l)
 unfolding keptOf keptStart
-kept-started counts written read queue turns rows rows′ l m p e adds count a f =
-    ap (λ (g : ℕ → ℕ). record { counts = countsOf counts written read; queue = queueOf (asFun queue) (asFun turns) (l .waiting); listed = l .rank; rows = g })
-    (f ∙ ap (λ (t : Bool). withRow (asFun rows) m (freshNumbers p (kindOf t) count)) a)
+kept-started counts written read queue turns rows rows′ l m p adds count f =
+    ap (λ (g : ℕ → ℕ). record { counts = countsOf counts written read; queue = queueOf (asFun queue) (asFun turns) (l .waiting); listed = l .rank; rows = g }) f

@@ -32,6 +32,7 @@ use Rattle.ledger.proofs.Kept.{mem-keep}
 use Rattle.ledger.proofs.Waiters.{waiter-writes}
 use Rattle.ledger.proofs.Total.{acts, size, total-few, not-acted}
 use Rattle.keeping.specs.Keeping.{keptOf, CanKeep}
+use Rattle.engine.specs.Ends.{RoomFor}
 use Rattle.engine.proofs.Agrees.{Agrees, Ledger, stepping, can-step}
 
 all-of : {A : Type 0} (P : A → Type 0) (l : List A) → ((a : A) → List·Memᴰ a l → P a) → All P l
@@ -69,13 +70,18 @@ leaf-count : (counts read : List (List ℕ)) (writes : List ℕ) (h p : ℕ) (es
 unfolding countsOf levels countIn
 leaf-count counts read writes h p es e = e
 
-module _ (h at : ℕ) (st : State) (vals links : List ℕ) (ps : List Record) (set₀ m : ℕ) (counts : List (List ℕ)) (writes : List ℕ) (read : List (List ℕ)) (queue turns rows : List ℕ) (l : Listed)
-    (A : Agrees h at st vals links ps set₀ m) (L : Ledger h st (keptOf counts writes read queue turns rows l)) (p : ℕ) (inside : p < 2 ^ h) (acting : isIn set₀ p ≡ true) (short : at ≤ 65536) where
+module _ (s : List ℕ) (h at : ℕ) (st : State) (vals links : List ℕ) (ps : List Record) (set₀ m : ℕ) (counts : List (List ℕ)) (writes : List ℕ) (read : List (List ℕ)) (queue turns rows : List ℕ) (l : Listed)
+    (A : Agrees h at st vals links ps set₀ m) (L : Ledger h st (keptOf counts writes read queue turns rows l)) (p : ℕ) (inside : p < 2 ^ h) (acting : isIn set₀ p ≡ true) (within : at ≤ length s)
+    (short : length s ≤ 65536) (room : RoomFor s h read queue turns rows) where
   abbrev k : Kept
   k = keptOf counts writes read queue turns rows l
 
   length-queue : length (queueOf (asFun queue) (asFun turns) (l .waiting)) ≡ l .waiting
   length-queue = length-queueOf (asFun queue) (asFun turns) (l .waiting)
+
+  -- the arrays have a place for every operation that has started
+  places : st .operations ≤ length queue
+  places = subst (λ (n : ℕ). n ≤ length queue) (A .operations) (room .operations m (omega (arith, A .operations, A .good .few)) (omega (arith, A .started, within)))
 
   its-size : size k ≡ l .rank + l .waiting
   unfolding size keptOf
@@ -109,26 +115,28 @@ module _ (h at : ℕ) (st : State) (vals links : List ℕ) (ps : List Record) (s
 
   room-to-write : asFun writes p < 65535
   unfolding keptOf
-  room-to-write = omega (arith, its-writes, writes-few p (st .history), A .place, short)
+  room-to-write = omega (arith, its-writes, writes-few p (st .history), A .place, within, short)
     where
       its-writes : asFun writes p ≡ writesBy p (st .history)
       its-writes = leaf-count counts read writes h p (st .history) (L .keeps .counts .inNode 0 p (omega arith) inside)
 
-  waiters-known : (w : Waiter) → List·Memᴰ w (queueOf (asFun queue) (asFun turns) (l .waiting)) → w .operation < 1024
+  waiters-known : (w : Waiter) → List·Memᴰ w (queueOf (asFun queue) (asFun turns) (l .waiting)) → w .operation < length queue
   unfolding keptOf
   waiters-known w n =
       let waits = mem-keep _ (waiters (st .history)) (subst (List·Memᴰ w) (L .keeps .queue) n) in
       omega (
         arith,
-        A .good .few,
+        places,
         A .good .known isLeafWrite (w .operation) (sym (did-leaf (w .operation) (st .history)) ∙ written (waiter-writes (st .history) w (waits .0))),
       )
 
-  can-list : CanList (asFun queue) (l .waiting) (l .rank)
+  can-list : CanList queue turns rows (l .waiting) (l .rank)
+  unfolding asFun
   can-list =
       record {
-        most = omega (arith, sizes, A .good .few);
-        operations = operations-all 1024 (asFun queue) (asFun turns) (l .waiting) (all-of (λ w. w .operation < 1024) _ waiters-known);
+        sizes = room .sizes;
+        most = omega (arith, sizes, places);
+        operations = operations-all (length queue) (asFun queue) (asFun turns) (l .waiting) (all-of (λ w. w .operation < length queue) _ waiters-known);
         ranks = omega (arith, sizes, A .good .few);
       }
 
@@ -154,20 +162,43 @@ module _ (h at : ℕ) (st : State) (vals links : List ℕ) (ps : List Record) (s
           record {
             row = omega (arith, started, A .good .few);
             head = omega (arith, first-number, one-small (st .row o .finished), A .good .owners o, A .good .fits o .kind, A .good .fits o .contention);
-            steps = omega (arith, L .keeps .rows o 1 started (omega arith), A .good .steps o, A .place, short);
-            seconds = omega (arith, L .keeps .rows o 4 started (omega arith), A .good .seconds o, A .place, short);
+            steps = omega (arith, L .keeps .rows o 1 started (omega arith), A .good .steps o, A .place, within, short);
+            seconds = omega (arith, L .keeps .rows o 4 started (omega arith), A .good .seconds o, A .place, within, short);
           }
 
-  pub can-keep : CanKeep h p (getD ps p idleRecord) writes queue rows l
+  pub can-keep : CanKeep h p (getD ps p idleRecord) writes read queue turns rows l
   can-keep =
       record {
         low = A .good .low;
         high = A .good .high;
         process = omega (arith, inside, pow-mono (A .good .high));
+        reader = omega (arith, inside, room .readers);
+        operation = omega (arith, its-operation, A .good .owns p (stepping h at st vals links ps set₀ m A p inside acting .acts), places);
         step = omega (arith, can-step h at st vals links ps set₀ m A p inside acting .last, last-small h (getD ps p idleRecord .adds) (A .good .high));
         written = room-to-write;
         queue = can-list;
-        waiting = λ two. omega (arith, sizes-less (sym its-step ∙ two), A .good .few);
+        waiting = λ two. omega (arith, sizes-less (sym its-step ∙ two), places);
         ranks = omega (arith, sizes, A .good .few);
         row = room-in-row;
       }
+
+-- the lent arrays keep their lengths
+pub record Same (read₀ read : List (List ℕ)) (queue₀ queue turns₀ turns rows₀ rows : List ℕ) : Type 0 where
+  pub ofRead : length read ≡ length read₀
+  pub ofQueue : length queue ≡ length queue₀
+  pub ofTurns : length turns ≡ length turns₀
+  pub ofRows : length rows ≡ length rows₀
+
+pub room-still : (s : List ℕ) (h : ℕ) {read₀ read : List (List ℕ)} {queue₀ queue turns₀ turns rows₀ rows : List ℕ} → Same read₀ read queue₀ queue turns₀ turns rows₀ rows
+    → RoomFor s h read₀ queue₀ turns₀ rows₀ → RoomFor s h read queue turns rows
+room-still s h same room =
+    record {
+      readers = omega (arith, same .ofRead, room .readers);
+      sizes =
+          record {
+            few = omega (arith, same .ofQueue, room .sizes .few);
+            turnsFit = omega (arith, same .ofQueue, same .ofTurns, room .sizes .turnsFit);
+            rowsFit = omega (arith, same .ofQueue, same .ofRows, room .sizes .rowsFit);
+          };
+      operations = λ m a b. omega (arith, same .ofQueue, room .operations m a b);
+    }

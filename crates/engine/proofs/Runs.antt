@@ -29,7 +29,7 @@ use Rattle.ledger.specs.Kept.{Kept, keptStep, keptStart}
 use Rattle.keeping.specs.Keeping.{keptOf}
 use Rattle.engine.specs.Ends.{addsOf, deltaOf, Ends, refuses, accepts, Refuses}
 use Rattle.engine.specs.declared.Ended.{Ended}
-use Rattle.engine.specs.Tries.{Stands, Stops, breaks, refuses as refusesEvent, Stopped, busyThen}
+use Rattle.engine.specs.Tries.{Stands, Stops, breaks, refuses as refusesEvent, Stopped, Goes, Begins, busyThen}
 use Rattle.engine.proofs.Agrees.{Agrees, Ledger, can-step as can-step-here, agrees-step, agrees-start, ledger-step, ledger-start}
 
 pub record Runs (s : List ℕ) (h at : ℕ) (vals links : List ℕ) (ps : List Record) (set₀ m : ℕ) : Type 0 where
@@ -37,11 +37,12 @@ pub record Runs (s : List ℕ) (h at : ℕ) (vals links : List ℕ) (ps : List R
   pub most : ℕ
   pub agrees : Agrees h at st vals links ps set₀ m
   pub enough : length s ≤ most + at
+  pub within : at ≤ length s
   pub rest : run h st (recordsFrom most s at) ≡ run h initial (recordsOf s)
 
-pub record RunsKept (s : List ℕ) (h at : ℕ) (vals links : List ℕ) (ps : List Record) (set₀ m : ℕ) (k : Kept) : Type 0 where
+pub record RunsKept (s : List ℕ) (h at : ℕ) (vals links : List ℕ) (ps : List Record) (set₀ m : ℕ) (asked : Bool) (k : Kept) : Type 0 where
   pub runs : Runs s h at vals links ps set₀ m
-  pub ledger : Ledger h (runs .st) k
+  pub ledger : asked ≡ true → Ledger h (runs .st) k
 
 -- ---- the records from a place, by what is cut there
 
@@ -131,91 +132,99 @@ module _ (s : List ℕ) (h at : ℕ) (vals links : List ℕ) (ps : List Record) 
 
   -- ---- an event that passes
 
-  module _ (e : Event) (next : ℕ) (c : Stands s h set₀ m at e next 0) (p : ℕ) (whose : p ≡ processIn e) where
-    taken : Taken h e (isIn set₀ (processIn e)) m
-    taken = refusal-passes h e (isIn set₀ (processIn e)) m (sym (c .number))
+  module _ (p next : ℕ) (starts : Bool) (g : Goes s h set₀ m at p next starts) where
+    taken : Taken h (g .event) (isIn set₀ (processIn (g .event))) m
+    taken = refusal-passes h (g .event) (isIn set₀ (processIn (g .event))) m (sym (g .stands .number))
 
     pub inside : p < 2 ^ h
-    inside = subst (λ (q : ℕ). q < 2 ^ h) (sym whose) (taken .inside)
+    inside = subst (λ (q : ℕ). q < 2 ^ h) (sym (g .whose)) (taken .inside)
 
     pub low : p < 64
     low = omega (arith, inside, pow-mono (R .agrees .good .high))
 
-    pub acting : isStart e ≡ false → isIn set₀ p ≡ true
-    acting d = ap (isIn set₀) whose ∙ taken .steps d
+    pub acting : starts ≡ false → isIn set₀ p ≡ true
+    acting d = ap (isIn set₀) (g .whose) ∙ taken .steps (g .kind ∙ d)
 
-    free : isStart e ≡ true → isIn set₀ p ≡ false
-    free d = ap (isIn set₀) whose ∙ taken .starts d .0
+    free : starts ≡ true → isIn set₀ p ≡ false
+    free d = ap (isIn set₀) (g .whose) ∙ taken .starts (g .kind ∙ d) .0
 
-    pub room : isStart e ≡ true → m < 1024
-    room d = taken .starts d .1
+    room-left : starts ≡ true → m < 1024
+    room-left d = taken .starts (g .kind ∙ d) .1
 
-    pub can-step : isStart e ≡ false → CanStep h p (getD ps p idleRecord)
-    can-step d = can-step-here h at (R .st) vals links ps set₀ m (R .agrees) p inside (acting d)
-
-    goes-on : (vals′ links′ : List ℕ) (ps′ : List Record) (set′ m′ : ℕ) (st′ : State) → takeEvent h (R .st) e ≡ st′ → Agrees h next st′ vals′ links′ ps′ set′ m′ → Runs s h next vals′ links′ ps′ set′ m′
+    goes-on : (vals′ links′ : List ℕ) (ps′ : List Record) (set′ m′ : ℕ) (st′ : State) → takeEvent h (R .st) (g .event) ≡ st′ → Agrees h next st′ vals′ links′ ps′ set′ m′
+        → Runs s h next vals′ links′ ps′ set′ m′
     unfolding unless
     goes-on vals′ links′ ps′ set′ m′ st′ same A =
-        let f = found-rest c in
+        let f = found-rest (g .stands) in
         record {
           st = st′;
           most = f .0;
           agrees = A;
-          enough = omega (arith, R .enough, f .1, c .further);
+          enough = omega (arith, R .enough, f .1, g .stands .further);
+          within = g .stands .within;
           rest = ap (λ (x : State). run h x (recordsFrom (f .0) s next)) (sym same) ∙ sym (f .2);
         }
 
-    module _ (steps : isStart e ≡ false) (vals′ links′ : List ℕ) (r : Record) (n : Nexts h p (getD ps p idleRecord) vals links vals′ links′ r) (ps′ : List Record) (set′ : ℕ)
+  module _ (p next : ℕ) (g : Goes s h set₀ m at p next false) where
+    pub can-step : CanStep h p (getD ps p idleRecord)
+    can-step = can-step-here h at (R .st) vals links ps set₀ m (R .agrees) p (inside p next false g) (acting p next false g refl)
+
+    module _ (vals′ links′ : List ℕ) (r : Record) (n : Nexts h p (getD ps p idleRecord) vals links vals′ links′ r) (ps′ : List Record) (set′ : ℕ)
         (ep : ps′ ≡ set ps p r) (es : isIn set′ ≡ busyThen (eqb (r .step) 0) p (isIn set₀)) where
       pub runs-step : Runs s h next vals′ links′ ps′ set′ m
       runs-step =
-          goes-on vals′ links′ ps′ set′ m (takeStep h p (R .st)) (take-step h (R .st) e steps ∙ ap (λ (q : ℕ). takeStep h q (R .st)) (sym whose))
-          (agrees-step h at (R .st) vals links ps set₀ m (R .agrees) p inside (acting steps) vals′ links′ r n next ps′ set′ (c .further) ep es)
+          goes-on p next false g vals′ links′ ps′ set′ m (takeStep h p (R .st)) (take-step h (R .st) (g .event) (g .kind) ∙ ap (λ (q : ℕ). takeStep h q (R .st)) (sym (g .whose)))
+          (agrees-step h at (R .st) vals links ps set₀ m (R .agrees) p (inside p next false g) (acting p next false g refl) vals′ links′ r n next ps′ set′ (g .stands .further) ep es)
 
-      pub runs-kept-step : (k k′ : Kept) → Ledger h (R .st) k → k′ ≡ keptStep h p (processOf (getD ps p idleRecord)) (processOf r) (r .stored) k → RunsKept s h next vals′ links′ ps′ set′ m k′
+      pub runs-kept-step : (asked : Bool) (k k′ : Kept) → (asked ≡ true → Ledger h (R .st) k)
+          → (asked ≡ true → k′ ≡ keptStep h p (processOf (getD ps p idleRecord)) (processOf r) (r .stored) k) → RunsKept s h next vals′ links′ ps′ set′ m asked k′
       unfolding runs-step goes-on
-      runs-kept-step k k′ L ek =
-          record { runs = runs-step; ledger = ledger-step h at (R .st) vals links ps set₀ m (R .agrees) p inside (acting steps) vals′ links′ r n k k′ L ek }
+      runs-kept-step asked k k′ L ek =
+          record { runs = runs-step; ledger = λ a. ledger-step h at (R .st) vals links ps set₀ m (R .agrees) p (inside p next false g) (acting p next false g refl) vals′ links′ r n k k′ (L a) (ek a) }
 
-    module _ (begins : isStart e ≡ true) (ps′ : List Record) (set′ : ℕ) (ep : ps′ ≡ set ps p (startedRecord m (addsOf e) (deltaOf e))) (es : isIn set′ ≡ with p (isIn set₀)) where
+  module _ (p : ℕ) (adds : Bool) (delta next : ℕ) (b : Begins s h set₀ m at p adds delta next) where
+    pub room : m < 1024
+    room = room-left p next true (b .goes) refl
+
+    module _ (ps′ : List Record) (set′ : ℕ) (ep : ps′ ≡ set ps p (startedRecord m adds delta)) (es : isIn set′ ≡ with p (isIn set₀)) where
       pub runs-start : Runs s h next vals links ps′ set′ (m + 1)
       runs-start =
-          goes-on vals links ps′ set′ (m + 1) (start h p (addsOf e) (deltaOf e) (R .st))
-          (take-start h (R .st) e begins ∙ ap (λ (q : ℕ). start h q (addsOf e) (deltaOf e) (R .st)) (sym whose))
-          (rw add-one (agrees-start h at (R .st) vals links ps set₀ m (R .agrees) p inside (free begins) (room begins) (addsOf e) (deltaOf e) ps′ set′ ep es next (c .further)))
+          goes-on p next true (b .goes) vals links ps′ set′ (m + 1) (start h p adds delta (R .st))
+          (take-start h (R .st) (b .goes .event) (b .goes .kind)
+          ∙ sym (λ i. start h (b .goes .whose i) (b .kind i) (b .amount i) (R .st)))
+          (rw add-one (agrees-start h at (R .st) vals links ps set₀ m (R .agrees) p (inside p next true (b .goes)) (free p next true (b .goes) refl) room adds delta ps′ set′ ep es next (b .goes .stands .further)))
 
-      pub runs-kept-start : (contention : ℕ) (k k′ : Kept) → Ledger h (R .st) k → contention ≡ countBelow 64 (isIn set′) → k′ ≡ keptStart m p (kindOf (addsOf e)) contention k
-          → RunsKept s h next vals links ps′ set′ (m + 1) k′
+      pub runs-kept-start : (asked : Bool) (contention : ℕ) (k k′ : Kept) → (asked ≡ true → Ledger h (R .st) k) → contention ≡ countBelow 64 (isIn set′)
+          → (asked ≡ true → k′ ≡ keptStart m p (kindOf adds) contention k) → RunsKept s h next vals links ps′ set′ (m + 1) asked k′
       unfolding runs-start goes-on
-      runs-kept-start contention k k′ L ec ek =
+      runs-kept-start asked contention k k′ L ec ek =
           record {
             runs = runs-start;
-            ledger =
-                ledger-start h at (R .st) vals links ps set₀ m (R .agrees) p inside (free begins) (room begins) (addsOf e) (deltaOf e) ps′ set′ ep es contention k k′ L ec ek;
+            ledger = λ a. ledger-start h at (R .st) vals links ps set₀ m (R .agrees) p (inside p next true (b .goes)) (free p next true (b .goes) refl) room adds delta ps′ set′ ep es contention k k′ (L a) ec (ek a);
           }
 
 -- ---- the beginning
 
-pub runs-begin : (s : List ℕ) (h : ℕ) (vals links : List ℕ) (ps : List Record) (set₀ : ℕ) → Agrees h 6 initial vals links ps set₀ 0 → Runs s h 6 vals links ps set₀ 0
+pub runs-begin : (s : List ℕ) (h : ℕ) (vals links : List ℕ) (ps : List Record) (set₀ : ℕ) → 6 ≤ length s → Agrees h 6 initial vals links ps set₀ 0 → Runs s h 6 vals links ps set₀ 0
 unfolding recordsOf
-runs-begin s h vals links ps set₀ A = record { st = initial; most = length s; agrees = A; enough = omega arith; rest = refl }
+runs-begin s h vals links ps set₀ b A = record { st = initial; most = length s; agrees = A; enough = omega arith; within = b; rest = refl }
 
-pub runs-kept-begin : (s : List ℕ) (h : ℕ) (vals links : List ℕ) (ps : List Record) (set₀ : ℕ) (k : Kept) → Agrees h 6 initial vals links ps set₀ 0 → Ledger h initial k
-    → RunsKept s h 6 vals links ps set₀ 0 k
+pub runs-kept-begin : (s : List ℕ) (h : ℕ) (vals links : List ℕ) (ps : List Record) (set₀ : ℕ) (asked : Bool) (k : Kept) → 6 ≤ length s → Agrees h 6 initial vals links ps set₀ 0
+    → Ledger h initial k → RunsKept s h 6 vals links ps set₀ 0 asked k
 unfolding runs-begin
-runs-kept-begin s h vals links ps set₀ k A L = record { runs = runs-begin s h vals links ps set₀ A; ledger = L }
+runs-kept-begin s h vals links ps set₀ asked k b A L = record { runs = runs-begin s h vals links ps set₀ b A; ledger = λ a. L }
 
 -- ---- the ends
 
-pub ends-accepted : (s : List ℕ) (h at : ℕ) (vals links : List ℕ) (ps : List Record) (set₀ m : ℕ) (counts : List (List ℕ)) (writes : List ℕ) (read : List (List ℕ)) (queue turns rows : List ℕ) (l : Listed)
-    → RunsKept s h at vals links ps set₀ m (keptOf counts writes read queue turns rows l) → cutAt s at ≡ End → (r : Ended) → r .number ≡ 0 → r .place ≡ 0 → r .operations ≡ m
-    → r .counter ≡ getD vals 1 0 → Ends h (asFun rows) r (run h initial (recordsOf s))
+pub ends-accepted : (s : List ℕ) (h at : ℕ) (vals links : List ℕ) (ps : List Record) (set₀ m : ℕ) (asked : Bool) (counts : List (List ℕ)) (writes : List ℕ) (read : List (List ℕ))
+    (queue turns rows : List ℕ) (l : Listed) → RunsKept s h at vals links ps set₀ m asked (keptOf counts writes read queue turns rows l) → cutAt s at ≡ End → (r : Ended) → r .number ≡ 0
+    → r .place ≡ 0 → r .operations ≡ m → r .counter ≡ getD vals 1 0 → Ends asked h (length s) (asFun rows) r (run h initial (recordsOf s))
 unfolding keptOf memoryOf asFun root
-ends-accepted s h at vals links ps set₀ m counts writes read queue turns rows l K e r a b c d =
+ends-accepted s h at vals links ps set₀ m asked counts writes read queue turns rows l K e r a b c d =
     let R = K .runs in
-    subst (Ends h (asFun rows) r) (sym (runs-end s h at vals links ps set₀ m R e))
-    (accepts a b (c ∙ R .agrees .operations) (d ∙ ap (λ (x : Memory). x .value 1) (R .agrees .memory)) (R .agrees .good .few) (K .ledger .keeps .rows) (λ i x. R .agrees .good .fits i))
+    subst (Ends asked h (length s) (asFun rows) r) (sym (runs-end s h at vals links ps set₀ m R e))
+    (accepts a b (c ∙ R .agrees .operations) (d ∙ ap (λ (x : Memory). x .value 1) (R .agrees .memory)) (R .agrees .good .few) (omega (arith, R .agrees .operations, R .agrees .started, R .within)) (λ t. K .ledger t .keeps .rows) (λ i x. R .agrees .good .fits i))
 
-pub ends-refused : (h : ℕ) (rows : ℕ → ℕ) (o : Outcome) (number place : ℕ) (r : Ended) → (o ≡ refused (record { number = number; place = place })) × (1 ≤ number) → Refuses number place r
-    → Ends h rows r o
-ends-refused h rows o number place r e f = subst (Ends h rows r) (sym (e .0)) (refuses (f .its) (f .there) (e .1))
+pub ends-refused : (asked : Bool) (h size : ℕ) (rows : ℕ → ℕ) (o : Outcome) (number place : ℕ) (r : Ended) → (o ≡ refused (record { number = number; place = place })) × (1 ≤ number)
+    → Refuses number place r → Ends asked h size rows r o
+ends-refused asked h size rows o number place r e f = subst (Ends asked h size rows r) (sym (e .0)) (refuses (f .its) (f .there) (e .1))

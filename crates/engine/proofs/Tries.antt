@@ -12,11 +12,12 @@ use Rattle.recording.specs.declared.Event.{Event}
 use Rattle.recording.specs.declared.Cut.{Cut}
 use Rattle.recording.specs.declared.Cut.the-variants.{Found, Broken, End}
 use Rattle.sets.specs.Processes.{isIn}
-use Rattle.meaning.specs.Run.{processOf}
+use Rattle.meaning.specs.Run.{processOf, isStart}
 use Rattle.rules.specs.Rules.{refusalBy}
-use Rattle.engine.specs.Tries.{Stands, breaks, refuses, Stopped, Tries}
+use Rattle.engine.specs.Ends.{addsOf, deltaOf}
+use Rattle.engine.specs.Tries.{Stands, breaks, refuses, Stopped, Goes, Begins, Tries}
 use Rattle.engine.specs.declared.Tried.{Tried}
-use Rattle.engine.specs.declared.Tried.the-variants.{End as Over, Refused, Passes}
+use Rattle.engine.specs.declared.Tried.the-variants.{End as Over, Refused, Step, Start}
 
 broken-left : (s : List ℕ) (at place : ℕ) → cutAt s at ≡ Broken place → at < length s
 unfolding cutAt
@@ -49,9 +50,22 @@ module _ (s : List ℕ) (h set₀ m at : ℕ) where
     unfolding Tries
     tries-refused z = record { why = refuses stands z refl; inside = omega (arith, stands .further, stands .within) }
 
-    pub tries-passes : n ≡ 0 → Tries s h set₀ m at (Passes e next)
-    unfolding Tries
-    tries-passes z = subst (Stands s h set₀ m at e next) z stands
+    module _ (z : n ≡ 0) (starts : Bool) (kind : starts ≡ isStart e) where
+      abbrev passing : Goes s h set₀ m at p next starts
+      passing = record { event = e; stands = subst (Stands s h set₀ m at e next) z stands; whose = whose; kind = sym kind }
+
+      pub tries-step : starts ≡ false → Tries s h set₀ m at (Step p next)
+      unfolding Tries
+      tries-step b = subst (Goes s h set₀ m at p next) b passing
+
+      pub tries-start : (adds : Bool) (delta : ℕ) → starts ≡ true → adds ≡ addsOf e → delta ≡ deltaOf e → Tries s h set₀ m at (Start p adds delta next)
+      unfolding Tries
+      tries-start adds delta b a d =
+          record {
+            goes = record { event = e; stands = passing .stands; whose = whose; kind = sym kind ∙ b };
+            kind = a;
+            amount = d;
+          }
 
   -- ---- for the loops
 
@@ -64,6 +78,10 @@ module _ (s : List ℕ) (h set₀ m at : ℕ) where
     unfolding Tries
     tried-stopped n place e = subst (Tries s h set₀ m at) e t
 
-    pub tried-passes : (e : Event) (next : ℕ) → x ≡ Passes e next → Stands s h set₀ m at e next 0
+    pub tried-step : (p next : ℕ) → x ≡ Step p next → Goes s h set₀ m at p next false
     unfolding Tries
-    tried-passes e next d = subst (Tries s h set₀ m at) d t
+    tried-step p next e = subst (Tries s h set₀ m at) e t
+
+    pub tried-start : (p : ℕ) (adds : Bool) (delta next : ℕ) → x ≡ Start p adds delta next → Begins s h set₀ m at p adds delta next
+    unfolding Tries
+    tried-start p adds delta next e = subst (Tries s h set₀ m at) e t

@@ -1,9 +1,9 @@
 -- How a run ends, and what check and report promise.
-use Prim.Native.Nat.{ℕ, _+_, _*_, _≤_, _<_}
+use Prim.Native.Nat.{ℕ, _+_, _*_, _^_, _≤_, _<_}
 use mathlib.Core.Path.{_≡_}
 use mathlib.Core.Bool.{Bool, true, false}
 use mathlib.Core.List.{List}
-use lib.ListN.{getD}
+use lib.ListN.{length, getD}
 use Rattle.recording.specs.Record.{Answer}
 use Rattle.recording.specs.declared.Event.{Event}
 use Rattle.recording.specs.declared.Event.the-variants.{Step, Read, Add}
@@ -11,6 +11,7 @@ use Rattle.meaning.specs.Tree.{root}
 use Rattle.meaning.specs.Run.{State, Outcome, refused, accepted}
 use Rattle.meaning.specs.Report.{reportAnswer, reportBuffer}
 use Rattle.meaning.specs.TakenIn.{rank}
+use Rattle.listing.specs.Queue.{Sizes}
 use Rattle.rows.specs.Rows.{rowNumbers}
 use Rattle.rows.proofs.Laws.{RowFits}
 use Rattle.engine.specs.declared.Ended.{Ended}
@@ -36,12 +37,18 @@ pub record Refuses (number place : ℕ) (r : Ended) : Type 0 where
   pub its : r .number ≡ number
   pub there : r .place ≡ place
 
--- A run ends as the definition's: with the refusal, or with the counter, the operations and their rows' numbers.
-pub data Ends (h : ℕ) (rows : ℕ → ℕ) (r : Ended) : Outcome → Type 0 where
-  refuses : {a : Answer} → r .number ≡ a .number → r .place ≡ a .place → 1 ≤ a .number → Ends h rows r (refused a)
-  accepts : {st : State} → r .number ≡ 0 → r .place ≡ 0 → r .operations ≡ st .operations → r .counter ≡ st .memory .value root → st .operations ≤ 1024
-      → ((i j : ℕ) → i < st .operations → j < 5 → rows (5 * i + j) ≡ getD (rowNumbers (st .row i) (rank h (st .history) i)) j 0)
-      → ((i : ℕ) → i < st .operations → RowFits (st .row i)) → Ends h rows r (accepted st)
+-- A run over so many bytes ends as the definition's: with the refusal, or with the counter, the operations and, where a report is asked for, their rows' numbers.
+pub data Ends (asked : Bool) (h size : ℕ) (rows : ℕ → ℕ) (r : Ended) : Outcome → Type 0 where
+  refuses : {a : Answer} → r .number ≡ a .number → r .place ≡ a .place → 1 ≤ a .number → Ends asked h size rows r (refused a)
+  accepts : {st : State} → r .number ≡ 0 → r .place ≡ 0 → r .operations ≡ st .operations → r .counter ≡ st .memory .value root → st .operations ≤ 1024 → 3 * st .operations + 6 ≤ size
+      → (asked ≡ true → (i j : ℕ) → i < st .operations → j < 5 → rows (5 * i + j) ≡ getD (rowNumbers (st .row i) (rank h (st .history) i)) j 0)
+      → ((i : ℕ) → i < st .operations → RowFits (st .row i)) → Ends asked h size rows r (accepted st)
+
+-- Arrays for what a report of s keeps: a row of read counts for each process; a queue, turns and rows for every operation that s has bytes for.
+pub record RoomFor (s : List ℕ) (h : ℕ) (read : List (List ℕ)) (queue turns rows : List ℕ) : Type 0 where
+  pub readers : 2 ^ h ≤ length read
+  pub sizes : Sizes queue turns rows
+  pub operations : (m : ℕ) → m ≤ 1024 → 3 * m + 6 ≤ length s → m ≤ length queue
 
 -- what report promises: the answer, and every byte of the buffer
 pub record Reports (s before after : List ℕ) (r : Reply) : Type 0 where

@@ -1,17 +1,18 @@
 -- What trying the record at a place comes to, by what the run keeps.
 use Prim.Native.Nat.{ℕ, _+_, _≤_, _<_}
 use mathlib.Core.Path.{_≡_}
-use mathlib.Core.Bool.{Bool, cond}
+use mathlib.Core.Bool.{Bool, true, false, cond}
 use mathlib.Core.List.{List}
 use lib.ListN.{length}
 use Rattle.recording.specs.Record.{cutAt}
 use Rattle.recording.specs.declared.Event.{Event}
 use Rattle.recording.specs.declared.Cut.the-variants.{Found, Broken, End as NoMore}
 use Rattle.sets.specs.Processes.{without, isIn}
-use Rattle.meaning.specs.Run.{processOf}
+use Rattle.meaning.specs.Run.{processOf, isStart}
 use Rattle.rules.specs.Rules.{refusalBy}
+use Rattle.engine.specs.Ends.{addsOf, deltaOf}
 use Rattle.engine.specs.declared.Tried.{Tried}
-use Rattle.engine.specs.declared.Tried.the-variants.{End, Refused, Passes}
+use Rattle.engine.specs.declared.Tried.the-variants.{End, Refused, Step, Start}
 
 -- an event stands at the place, with the place of the next record and its refusal's number
 pub record Stands (s : List ℕ) (h set m at : ℕ) (e : Event) (next n : ℕ) : Type 0 where
@@ -29,10 +30,23 @@ pub record Stopped (s : List ℕ) (h set m at n place : ℕ) : Type 0 where
   pub why : Stops s h set m at n place
   pub inside : place ≤ length s
 
+-- an event that passes, a start or a step, of process p
+pub record Goes (s : List ℕ) (h set m at p next : ℕ) (starts : Bool) : Type 0 where
+  pub event : Event
+  pub stands : Stands s h set m at event next 0
+  pub whose : p ≡ processOf event
+  pub kind : isStart event ≡ starts
+
+pub record Begins (s : List ℕ) (h set m at p : ℕ) (adds : Bool) (delta next : ℕ) : Type 0 where
+  pub goes : Goes s h set m at p next true
+  pub kind : adds ≡ addsOf (goes .event)
+  pub amount : delta ≡ deltaOf (goes .event)
+
 unfoldable pub Tries : List ℕ → ℕ → ℕ → ℕ → ℕ → Tried → Type 0
 Tries s h set m at End = cutAt s at ≡ NoMore
 Tries s h set m at (Refused n place) = Stopped s h set m at n place
-Tries s h set m at (Passes e next) = Stands s h set m at e next 0
+Tries s h set m at (Step p next) = Goes s h set m at p next false
+Tries s h set m at (Start p adds delta next) = Begins s h set m at p adds delta next
 
 -- who is busy after a step of p: p no more where it is idle now
 abbrev pub busyThen : Bool → ℕ → (ℕ → Bool) → ℕ → Bool

@@ -6,15 +6,15 @@ use recording::Event;
 ghost use Prim.Native.Nat.{_+_, _*_, _^_, _≤_, _<_};
 ghost use lib.Dec.{eqb};
 ghost use mathlib.Core.Path.{_≡_};
+ghost use mathlib.Core.Bool.{true};
 ghost use lib.ListN.{length};
 ghost use Rattle.sets.specs.Processes.{countBelow, isIn};
 ghost use Rattle.arrays.specs.Arrays.{asFun};
-ghost use Rattle.meaning.specs.Layout.{recordsOf};
+ghost use Rattle.meaning.specs.Layout.{headRefusal, height, recordsOf};
 ghost use Rattle.meaning.specs.Run.{initial, kindOf, run as runOf};
-ghost use Rattle.meaning.specs.Report.{checkWith, checkAnswer};
-ghost use Rattle.machine.specs.Arrays.{startedRecord};
+ghost use Rattle.meaning.specs.Report.{checkAnswer};
 ghost use Rattle.rows.specs.Rows.{withRow, freshNumbers};
-ghost use Rattle.engine.specs.Ends.{answerOf, addsOf, deltaOf, Refuses, Ends, Reports};
+ghost use Rattle.engine.specs.Ends.{answerOf, addsOf, deltaOf, Refuses, Ends, RoomFor, Reports};
 ghost use Rattle.engine.specs.Tries.{Tries, busyThen};
 
 // A refusal number, or 0, and a place.
@@ -24,11 +24,13 @@ pub struct Reply {
     pub place: u32,
 }
 
-// What the record at a place comes to: no more records, a refusal and its place, or an event that passes and the next place.
+// What the record at a place comes to: no more records; a refusal and its place; a step or a start that passes, of a process, with what it
+// starts, and the next place.
 pub enum Tried {
     End,
     Refused(u32, usize),
-    Passes(Event, usize),
+    Step(usize, usize),
+    Start(usize, bool, u32, usize),
 }
 
 // The reply, and for an accepted recording its operations and its counter.
@@ -79,21 +81,18 @@ fn try_at(s: &[u8], h: u32, busy: u64, m: u32, at: usize) -> Tried
         Cut::End => Tried::End,
         Cut::Broken(place) => Tried::Refused(6, place),
         Cut::Found(e, next) => {
-            let k = rules::refusal(h, e, sets::has(busy, rules::process_of(e)), m);
+            let p = rules::process_of(e);
+            let k = rules::refusal(h, e, sets::has(busy, p), m);
             if k != 0 {
-                Tried::Refused(k, at)
+                return Tried::Refused(k, at);
+            }
+            if rules::is_start(e) {
+                Tried::Start(p, adds(e), delta_of(e), next)
             } else {
-                Tried::Passes(e, next)
+                Tried::Step(p, next)
             }
         }
     }
-}
-
-// The record of a process right after its start record, which is operation m.
-fn started(m: u32, e: Event) -> Process
-    ensures { λ r. ⌜ r ≡ startedRecord m (addsOf e) (deltaOf e) ⌝ }
-{
-    Process::started(m, adds(e), delta_of(e))
 }
 
 // Who is busy after a step of p, by its step number then.
@@ -103,27 +102,34 @@ fn busy_after(busy: u64, p: usize, step: u32) -> u64
     if step == 0 { sets::cut(busy, p) } else { busy }
 }
 
-// The row of operation m, with the contention right after its start.
-fn start_row(rows: &mut [u32; 5120], m: u32, p: usize, adds: bool, busy: u64)
-    requires { ⌜ (m < 1024) × (p < 64) ⌝ }
-    ensures { λ r. ⌜ asFun (now (rows .exit)) ≡ withRow (asFun (now (rows .entry))) m (freshNumbers p (kindOf adds) (countBelow 64 (isIn busy))) ⌝ }
+// The row of operation m, with the contention right after its start, where a report is asked for.
+fn start_row(asked: bool, rows: &mut [u32], m: u32, p: usize, adds: bool, busy: u64)
+    requires { ⌜ (m < 1024) × (p < 64) × (asked ≡ true → 5 * m + 5 ≤ length (now rows)) ⌝ }
+    ensures { λ r. ⌜ (asked ≡ true → asFun (now (rows .exit)) ≡ withRow (asFun (now (rows .entry))) m (freshNumbers p (kindOf adds) (countBelow 64 (isIn busy)))) ⌝ }
 {
-    let kind: u8 = if adds { 3 } else { 2 };
-    rows::start_row(rows, m as usize, p as u8, kind, sets::count(busy) as u8);
+    if asked {
+        let kind: u8 = if adds { 3 } else { 2 };
+        rows::start_row(rows, m as usize, p as u8, kind, sets::count(busy) as u8);
+    }
 }
 
-// The run over the records of a recording whose header has passed, with what a report asks for.
-fn run(s: &[u8], h: u32, rows: &mut [u32; 5120]) -> Ended
-    requires { ⌜ (1 ≤ h) × (h ≤ 6) × (length (now s) ≤ 65536) ⌝ }
-    ensures { λ r. ⌜ Ends h (asFun (now (rows .exit))) r (runOf h initial (recordsOf (now (s .entry)))) ⌝ }
+// The run over the records of a recording whose header has passed. Where no report is asked for, only what acceptance hangs on is kept.
+fn run(
+    s: &[u8],
+    h: u32,
+    asked: bool,
+    read: &mut [[u16; 64]],
+    queue: &mut [u16],
+    turns: &mut [u16],
+    rows: &mut [u32],
+) -> Ended
+    requires { ⌜ (1 ≤ h) × (h ≤ 6) × (6 ≤ length (now s)) × (length (now s) ≤ 65536) × (asked ≡ true → RoomFor (now s) h (now read) (now queue) (now turns) (now rows)) ⌝ }
+    ensures { λ r. ⌜ Ends asked h (length (now (s .entry))) (asFun (now (rows .exit))) r (runOf h initial (recordsOf (now (s .entry)))) ⌝ }
 {
     let mut vals = [0u32; 128];
     let mut links = [0u64; 64];
     let mut counts = [[0u16; 64]; 6];
     let mut written = [0u16; 64];
-    let mut read = [[0u16; 64]; 64];
-    let mut queue = [0u16; 1024];
-    let mut turns = [0u16; 1024];
     let idle = Process::idle();
     let mut procs = [idle; 64];
     let mut listed = Listed {
@@ -146,77 +152,32 @@ fn run(s: &[u8], h: u32, rows: &mut [u32; 5120]) -> Ended
             Tried::Refused(number, place) => {
                 return refused(number, place);
             }
-            Tried::Passes(e, next) => {
-                let p = rules::process_of(e);
-                if rules::is_start(e) {
-                    procs[p] = started(m, e);
-                    busy = sets::put(busy, p);
-                    start_row(rows, m, p, adds(e), busy);
-                    m = m + 1;
-                } else {
-                    let r = procs[p];
-                    let after = r.next(h, p, &mut vals, &mut links);
-                    listed = keeping::take_step(
-                        &mut counts,
-                        &mut written,
-                        &mut read,
-                        &mut queue,
-                        &mut turns,
-                        rows,
-                        h,
-                        p,
-                        r,
-                        after,
-                        listed,
-                    );
-                    procs[p] = after;
-                    busy = busy_after(busy, p, after.step);
-                }
+            Tried::Start(p, adds, delta, next) => {
+                procs[p] = Process::started(m as u16, adds, delta);
+                busy = sets::put(busy, p);
+                start_row(asked, rows, m, p, adds, busy);
+                m = m + 1;
                 at = next;
             }
-        }
-    }
-}
-
-// The same run with only what acceptance hangs on.
-fn check_records(s: &[u8], h: u32) -> Reply
-    requires { ⌜ (1 ≤ h) × (h ≤ 6) × (length (now s) ≤ 65536) ⌝ }
-    ensures { λ r. ⌜ answerOf r ≡ checkWith (runOf h initial (recordsOf (now (s .entry)))) ⌝ }
-{
-    let mut vals = [0u32; 128];
-    let mut links = [0u64; 64];
-    let idle = Process::idle();
-    let mut procs = [idle; 64];
-    let mut busy = sets::empty();
-    let mut operations: u32 = 0;
-    let mut at: usize = 6;
-    loop {
-        match try_at(s, h, busy, operations, at) {
-            Tried::End => {
-                return Reply {
-                    number: 0,
-                    place: 0,
-                };
-            }
-            Tried::Refused(number, place) => {
-                let last = refused(number, place);
-                return Reply {
-                    number: last.number,
-                    place: last.place,
-                };
-            }
-            Tried::Passes(e, next) => {
-                let p = rules::process_of(e);
-                if rules::is_start(e) {
-                    procs[p] = started(operations, e);
-                    busy = sets::put(busy, p);
-                    operations = operations + 1;
-                } else {
-                    let r = procs[p];
-                    let after = r.next(h, p, &mut vals, &mut links);
-                    procs[p] = after;
-                    busy = busy_after(busy, p, after.step);
-                }
+            Tried::Step(p, next) => {
+                let r = procs[p];
+                let after = r.next(h, p, &mut vals, &mut links);
+                listed = keeping::keep_step(
+                    asked,
+                    &mut counts,
+                    &mut written,
+                    read,
+                    queue,
+                    turns,
+                    rows,
+                    h,
+                    p,
+                    r,
+                    after,
+                    listed,
+                );
+                procs[p] = after;
+                busy = busy_after(busy, p, after.step);
                 at = next;
             }
         }
@@ -234,22 +195,38 @@ pub fn check(s: &[u8]) -> Reply
             place: 0,
         };
     }
-    check_records(s, s[5] as u32)
+    let mut read = [[0u16; 64]; 0];
+    let mut queue = [0u16; 0];
+    let mut turns = [0u16; 0];
+    let mut rows = [0u32; 0];
+    let last = run(
+        s,
+        s[5] as u32,
+        false,
+        &mut read,
+        &mut queue,
+        &mut turns,
+        &mut rows,
+    );
+    Reply {
+        number: last.number,
+        place: last.place,
+    }
 }
 
-// The answer, and on acceptance the report at the front of out.
-pub fn report(s: &[u8], out: &mut [u8]) -> Reply
+// The report of a recording whose header has passed, with the arrays that it keeps.
+fn report_in(
+    s: &[u8],
+    out: &mut [u8],
+    read: &mut [[u16; 64]],
+    queue: &mut [u16],
+    turns: &mut [u16],
+    rows: &mut [u32],
+) -> Reply
+    requires { ⌜ (headRefusal (now s) ≡ 0) × RoomFor (now s) (height (now s)) (now read) (now queue) (now turns) (now rows) ⌝ }
     ensures { λ r. ⌜ Reports (now (s .entry)) (now (out .entry)) (now (out .exit)) r ⌝ }
 {
-    let k = rules::header(s);
-    if k != 0 {
-        return Reply {
-            number: k,
-            place: 0,
-        };
-    }
-    let mut rows = [0u32; 5120];
-    let e = run(s, s[5] as u32, &mut rows);
+    let e = run(s, s[5] as u32, true, read, queue, turns, rows);
     if e.number != 0 {
         return Reply {
             number: e.number,
@@ -263,9 +240,49 @@ pub fn report(s: &[u8], out: &mut [u8]) -> Reply
             place: (9 + 20 * m) as u32,
         };
     }
-    rows::lay_report(out, m, e.counter, &rows);
+    rows::lay_report(out, m, e.counter, rows);
     Reply {
         number: 0,
         place: 0,
     }
+}
+
+// The same with a queue, turns and rows for as many operations as the recording has bytes for: 20 at most, or 1,024.
+fn report_with(s: &[u8], out: &mut [u8], read: &mut [[u16; 64]]) -> Reply
+    requires { ⌜ (headRefusal (now s) ≡ 0) × (2 ^ height (now s) ≤ length (now read)) ⌝ }
+    ensures { λ r. ⌜ Reports (now (s .entry)) (now (out .entry)) (now (out .exit)) r ⌝ }
+{
+    if s.len() <= 68 {
+        let mut queue = [0u16; 20];
+        let mut turns = [0u16; 20];
+        let mut rows = [0u32; 100];
+        return report_in(s, out, read, &mut queue, &mut turns, &mut rows);
+    }
+    let mut queue = [0u16; 1024];
+    let mut turns = [0u16; 1024];
+    let mut rows = [0u32; 5120];
+    report_in(s, out, read, &mut queue, &mut turns, &mut rows)
+}
+
+// The answer, and on acceptance the report at the front of out.
+pub fn report(s: &[u8], out: &mut [u8]) -> Reply
+    ensures { λ r. ⌜ Reports (now (s .entry)) (now (out .entry)) (now (out .exit)) r ⌝ }
+{
+    let k = rules::header(s);
+    if k != 0 {
+        return Reply {
+            number: k,
+            place: 0,
+        };
+    }
+    if s[5] <= 3 {
+        let mut read = [[0u16; 64]; 8];
+        return report_with(s, out, &mut read);
+    }
+    if s[5] <= 5 {
+        let mut read = [[0u16; 64]; 32];
+        return report_with(s, out, &mut read);
+    }
+    let mut read = [[0u16; 64]; 64];
+    report_with(s, out, &mut read)
 }

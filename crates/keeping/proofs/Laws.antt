@@ -1,25 +1,21 @@
 -- What callers want of a step: its cases, that the rows keep their room, that its contract allows one outcome, and what the arrays must have
 -- room for, said of what is kept.
-use Prim.Native.Nat.{ℕ, _+_, _*_, _%_, _^_, _≤_, _<_}
-use mathlib.Core.Path.{_≡_, refl, sym, ap, _∙_, subst}
+use Prim.Native.Nat.{ℕ, _+_, _*_, _%_, _≤_, _<_}
+use mathlib.Core.Path.{_≡_, refl, sym, _∙_}
 use mathlib.Core.Bool.{Bool, true, false, cond}
 use mathlib.Core.List.{List, [], _∷_, _++_, append-nil}
 use native.Mathlib.Omega.{arith}
-use lib.ListN.{length}
 use lib.Dec.{eqb}
 use borrow.Author.Tests.{lt-leb, le-leb, ne-eqb, eq-eqb}
 use Rattle.meaning.specs.Steps.{Process}
 use Rattle.meaning.specs.TakenIn.{keep}
-use Rattle.arrays.specs.Arrays.{asFun}
 use Rattle.taken.specs.CountIn.{Waiter}
-use Rattle.counts.specs.Counts.{Counts, levels, countsOf, countsAfter}
+use Rattle.counts.specs.Counts.{Counts, countsAfter}
 use Rattle.rows.specs.Rows.{RoomToStep}
 use Rattle.listing.specs.Queue.{isCounted, operationsOf}
-use Rattle.listing.specs.declared.Listed.{Listed}
-use Rattle.listing.proofs.Laws.{All, length-queueOf, operations-all, ranked-beside}
-use Rattle.machine.specs.declared.Process.{Process as Record}
+use Rattle.listing.proofs.Laws.{ranked-beside}
 use Rattle.ledger.specs.Kept.{Kept, atRoot, queueThen, listThen, waitThen, rowThen, readStep, additionStep, keptStep, secondLink}
-use Rattle.keeping.specs.Keeping.{keptOf, CanKeep, additionListed, readListed}
+use Rattle.keeping.specs.Keeping.{additionListed, readListed}
 
 -- what is kept is settled by its four parts
 pub kept-is : {a b : Kept} → a .counts ≡ b .counts → a .queue ≡ b .queue → a .listed ≡ b .listed → a .rows ≡ b .rows → a ≡ b
@@ -105,56 +101,3 @@ module _ (h p : ℕ) (r r′ : Process) (stored : Bool) (k : Kept) where
 pub one-outcome : (h p : ℕ) (r r′ : Process) (stored : Bool) (k : Kept) {a b : Kept}
     → a ≡ keptStep h p r r′ stored k → b ≡ keptStep h p r r′ stored k → a ≡ b
 one-outcome h p r r′ stored k x y = x ∙ sym y
-
--- ---- what a step asks, said of what is kept
-
-pub record HasRoom (h p : ℕ) (r : Record) (k : Kept) : Type 0 where
-  pub low : 1 ≤ h
-  pub high : h ≤ 6
-  pub process : p < 64
-  pub step : r .step ≤ 50
-  pub written : k .counts .inNode 0 p < 65535
-  pub most : length (k .queue) ≤ 1024
-  pub operations : All (λ w. w .operation < 1024) (k .queue)
-  pub waiting : r .step ≡ 2 → length (k .queue) < 1024
-  pub all-ranks : k .listed + length (k .queue) < 2 ^ 32
-  pub ranks : k .listed + 1 < 2 ^ 32
-  pub row : RoomToStep (k .rows) (r .operation)
-
-module _ (counts read : List (List ℕ)) (written queue turns rows : List ℕ) (l : Listed) {k : Kept}
-    (e : keptOf counts written read queue turns rows l ≡ k) where
-  pub waiting-is : l .waiting ≡ length (k .queue)
-  unfolding keptOf
-  waiting-is = sym (length-queueOf (asFun queue) (asFun turns) (l .waiting)) ∙ ap (λ (x : Kept). length (x .queue)) e
-
-  pub rank-is : l .rank ≡ k .listed
-  unfolding keptOf
-  rank-is = ap (λ (x : Kept). x .listed) e
-
-  pub rows-are : asFun rows ≡ k .rows
-  unfolding keptOf
-  rows-are = ap (λ (x : Kept). x .rows) e
-
-  pub written-are : asFun written ≡ k .counts .inNode 0
-  unfolding keptOf countsOf levels
-  written-are = ap (λ (x : Kept). x .counts .inNode 0) e
-
-  pub can-keep : (h p : ℕ) (r : Record) → HasRoom h p r k → CanKeep h p r written queue rows l
-  unfolding keptOf
-  can-keep h p r can =
-      record {
-        low = can .low;
-        high = can .high;
-        process = can .process;
-        step = can .step;
-        written = rw written-are (can .written);
-        queue =
-            record {
-              most = rw waiting-is (can .most);
-              operations = operations-all 1024 _ (asFun turns) _ (subst (λ (x : Kept). All (λ w. w .operation < 1024) (x .queue)) (sym e) (can .operations));
-              ranks = rw (waiting-is, rank-is) (can .all-ranks);
-            };
-        waiting = λ s. rw waiting-is (can .waiting s);
-        ranks = rw rank-is (can .ranks);
-        row = rw rows-are (can .row);
-      }

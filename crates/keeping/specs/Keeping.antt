@@ -3,6 +3,7 @@ use Prim.Native.Nat.{ℕ, suc, _+_, _^_, _≤_, _<_}
 use mathlib.Core.Path.{_≡_}
 use mathlib.Core.Bool.{Bool, cond}
 use mathlib.Core.List.{List, [], _∷_}
+use lib.ListN.{length}
 use Rattle.meaning.specs.Steps.{Process}
 use Rattle.arrays.specs.Arrays.{asFun}
 use Rattle.taken.specs.CountIn.{Waiter}
@@ -22,15 +23,18 @@ keptOf counts written read queue turns rows l =
       rows = asFun rows;
     }
 
--- a tree of height 1 to 6, a process of 64, a step number of that tree, and room for one more leaf write, waiter, rank and step
-pub record CanKeep (h p : ℕ) (r : Record) (writes waiters numbers : List ℕ) (l : Listed) : Type 0 where
+-- a tree of height 1 to 6, a process of 64 that has a row of read counts, a step number of that tree, and room for one more leaf write,
+-- waiter, rank and step
+pub record CanKeep (h p : ℕ) (r : Record) (writes : List ℕ) (reads : List (List ℕ)) (waiters turns numbers : List ℕ) (l : Listed) : Type 0 where
   pub low : 1 ≤ h
   pub high : h ≤ 6
   pub process : p < 64
+  pub reader : p < length reads
   pub step : r .step ≤ 50
   pub written : asFun writes p < 65535
-  pub queue : CanList (asFun waiters) (l .waiting) (l .rank)
-  pub waiting : r .step ≡ 2 → l .waiting < 1024
+  pub queue : CanList waiters turns numbers (l .waiting) (l .rank)
+  pub operation : r .operation < length waiters
+  pub waiting : r .step ≡ 2 → l .waiting < length waiters
   pub ranks : l .rank + 1 < 2 ^ 32
   pub row : RoomToStep (asFun numbers) (r .operation)
 

@@ -1,20 +1,14 @@
 // What the replay keeps beside the memory: the counts, the queue of additions that wait to be listed, the ranks and the rows.
 use listing::Listed;
 use machine::Process;
-ghost use Prim.Native.Nat.{_+_, _^_, _<_};
+ghost use Prim.Native.Nat.{_+_, _*_, _^_, _≤_, _<_};
 ghost use mathlib.Core.Path.{_≡_};
+ghost use mathlib.Core.Bool.{true};
 ghost use lib.ListN.{length};
 ghost use Rattle.arrays.specs.Arrays.{asFun};
 ghost use Rattle.machine.specs.Arrays.{processOf};
 ghost use Rattle.ledger.specs.Kept.{keptStep, secondLink};
 ghost use Rattle.keeping.specs.Keeping.{keptOf, CanKeep, additionListed, ListsOne};
-
-// That the array has its length, for the proofs: nothing is left of it at run time.
-fn sized(rows: [u32; 5120]) -> bool
-    ensures { λ r. ⌜ length rows ≡ 5120 ⌝ }
-{
-    true
-}
 
 // Whether the step s is the LL of a second attempt.
 fn second_link(s: u32) -> bool
@@ -27,11 +21,10 @@ fn second_link(s: u32) -> bool
 }
 
 // A read's rank, at its one step.
-fn list_read(rows: &mut [u32; 5120], i: usize, listed: Listed) -> Listed
-    requires { ⌜ (i < 1024) × (listed .rank + 1 < 2 ^ 32) ⌝ }
+fn list_read(rows: &mut [u32], i: usize, listed: Listed) -> Listed
+    requires { ⌜ (i < 1024) × (5 * i + 5 ≤ length (now rows)) × (listed .rank + 1 < 2 ^ 32) ⌝ }
     ensures { λ l. ⌜ ListsOne i (asFun (now (rows .entry))) (asFun (now (rows .exit))) listed l ⌝ }
 {
-    sized(*rows);
     let rank = listed.rank + 1;
     rows[5 * i + 3] = rank;
     Listed {
@@ -44,17 +37,17 @@ fn list_read(rows: &mut [u32; 5120], i: usize, listed: Listed) -> Listed
 fn list_addition(
     counts: &mut [[u16; 64]; 6],
     written: &mut [u16; 64],
-    read: &mut [[u16; 64]; 64],
-    queue: &mut [u16; 1024],
-    turns: &mut [u16; 1024],
-    rows: &mut [u32; 5120],
+    read: &mut [[u16; 64]],
+    queue: &mut [u16],
+    turns: &mut [u16],
+    rows: &mut [u32],
     h: u32,
     p: usize,
     r: Process,
     stored: bool,
     listed: Listed,
 ) -> Listed
-    requires { ⌜ CanKeep h p r (now written) (now queue) (now rows) listed ⌝ }
+    requires { ⌜ CanKeep h p r (now written) (now read) (now queue) (now turns) (now rows) listed ⌝ }
     ensures { λ l. ⌜ keptOf (now (counts .exit)) (now (written .exit)) (now (read .exit)) (now (queue .exit)) (now (turns .exit)) (now (rows .exit)) l ≡ additionListed h p (processOf r) stored (keptOf (now (counts .entry)) (now (written .entry)) (now (read .entry)) (now (queue .entry)) (now (turns .entry)) (now (rows .entry)) listed) ⌝ }
 {
     let s = r.step;
@@ -78,20 +71,20 @@ fn list_addition(
 }
 
 // One step of process p, whose record was r and is next.
-pub fn take_step(
+fn take_step(
     counts: &mut [[u16; 64]; 6],
     written: &mut [u16; 64],
-    read: &mut [[u16; 64]; 64],
-    queue: &mut [u16; 1024],
-    turns: &mut [u16; 1024],
-    rows: &mut [u32; 5120],
+    read: &mut [[u16; 64]],
+    queue: &mut [u16],
+    turns: &mut [u16],
+    rows: &mut [u32],
     h: u32,
     p: usize,
     r: Process,
     next: Process,
     listed: Listed,
 ) -> Listed
-    requires { ⌜ CanKeep h p r (now written) (now queue) (now rows) listed ⌝ }
+    requires { ⌜ CanKeep h p r (now written) (now read) (now queue) (now turns) (now rows) listed ⌝ }
     ensures { λ l. ⌜ keptOf (now (counts .exit)) (now (written .exit)) (now (read .exit)) (now (queue .exit)) (now (turns .exit)) (now (rows .exit)) l ≡ keptStep h p (processOf r) (processOf next) (next .stored) (keptOf (now (counts .entry)) (now (written .entry)) (now (read .entry)) (now (queue .entry)) (now (turns .entry)) (now (rows .entry)) listed) ⌝ }
 {
     let i = r.operation as usize;
@@ -116,4 +109,40 @@ pub fn take_step(
     let after = list_read(rows, i, listed);
     rows::step_row(rows, i, done, next.seen, false);
     after
+}
+
+// The same where a report is asked for; otherwise nothing is kept.
+pub fn keep_step(
+    asked: bool,
+    counts: &mut [[u16; 64]; 6],
+    written: &mut [u16; 64],
+    read: &mut [[u16; 64]],
+    queue: &mut [u16],
+    turns: &mut [u16],
+    rows: &mut [u32],
+    h: u32,
+    p: usize,
+    r: Process,
+    next: Process,
+    listed: Listed,
+) -> Listed
+    requires { ⌜ (asked ≡ true → CanKeep h p r (now written) (now read) (now queue) (now turns) (now rows) listed) ⌝ }
+    ensures { λ l. ⌜ (asked ≡ true → keptOf (now (counts .exit)) (now (written .exit)) (now (read .exit)) (now (queue .exit)) (now (turns .exit)) (now (rows .exit)) l ≡ keptStep h p (processOf r) (processOf next) (next .stored) (keptOf (now (counts .entry)) (now (written .entry)) (now (read .entry)) (now (queue .entry)) (now (turns .entry)) (now (rows .entry)) listed)) ⌝ }
+{
+    if asked {
+        return take_step(
+            counts,
+            written,
+            read,
+            queue,
+            turns,
+            rows,
+            h,
+            p,
+            r,
+            next,
+            listed,
+        );
+    }
+    listed
 }

@@ -1,6 +1,6 @@
 -- Laws of the queue and of its listing: what a store leaves of the queue, what `keep` leaves of a list, which numbers the ranks change, and
 -- that a listing leaves a queue that can be listed again and allows one outcome.
-use Prim.Native.Nat.{ℕ, zero, suc, _+_, _*_, _/_, _%_, _^_, _≤_, _<_}
+use Prim.Native.Nat.{ℕ, zero, suc, _+_, _*_, _/_, _%_, _≤_, _<_}
 use mathlib.Core.Path.{_≡_, refl, sym, ap, ap₂, _∙_, subst}
 use mathlib.Core.Bool.{Bool, true, false, not, cond}
 use mathlib.Core.List.{List, [], _∷_, _++_, List·Memᴰ, List·Memᴰ·head, List·Memᴰ·tail}
@@ -13,9 +13,9 @@ use borrow.Author.Count.{below-more}
 use borrow.Author.Tests.{eq-eqb, eqb-true}
 use Rattle.meaning.specs.Steps.{upd}
 use Rattle.meaning.specs.TakenIn.{keep, further, positionOf}
-use Rattle.arrays.proofs.Laws.{upd-same, upd-other, upd-cases}
+use Rattle.arrays.proofs.Laws.{upd-same, upd-other}
 use Rattle.taken.specs.CountIn.{Waiter}
-use Rattle.listing.specs.Queue.{waiterAt, queueOf, isCounted, ranked, Lists, CanList}
+use Rattle.listing.specs.Queue.{waiterAt, queueOf, isCounted, ranked, Lists}
 use Rattle.listing.specs.declared.Listed.{Listed}
 
 -- ---- a property of every element of a list
@@ -210,27 +210,6 @@ module _ {ws : List Waiter} {count : ℕ → ℕ} {k : ℕ} {f f′ q′ t′ : 
   -- what waits on has the property that all had
   pub lists-keep : {P : Waiter → Type 0} → All P ws → All P (queueOf q′ t′ (r .waiting))
   lists-keep {P} a = subst (All P) (sym (l .waiting)) (all-keep (λ w. not (isCounted count w)) a)
-
--- what waits on can be listed again
-pub lists-again : (t : ℕ → ℕ) {q count : ℕ → ℕ} {waiting k : ℕ} {f f′ q′ t′ : ℕ → ℕ} {r : Listed}
-    → CanList q waiting k → Lists (queueOf q t waiting) count k f f′ q′ t′ r → CanList q′ (r .waiting) (r .rank)
-lists-again t {q} {waiting = waiting} {q′ = q′} {t′ = t′} {r = r} can l =
-    let n = length-queueOf q t waiting in
-    record {
-      most = omega (arith, can .most, l .fewer);
-      operations = operations-all 1024 q′ t′ (r .waiting) (lists-keep l (all-operations 1024 q t waiting (can .operations)));
-      ranks = omega (arith, can .ranks, lists-all l);
-    }
-
--- and so can a queue with one more
-pub can-wait : {q : ℕ → ℕ} {waiting k : ℕ} (operation p : ℕ) → CanList q waiting k
-    → waiting < 1024 → operation < 1024 → p < 64 → k + suc waiting < 2 ^ 32 → CanList (upd q waiting (operation * 64 + p)) (suc waiting) k
-can-wait {q} {waiting} operation p can room small h ranks =
-    record {
-      most = room;
-      operations = λ j l. upd-cases q waiting (operation * 64 + p) (λ x. x / 64 < 1024) j (λ e. omega arith) (λ n. can .operations j (omega arith));
-      ranks = ranks;
-    }
 
 -- One outcome: the same waiting list, the same numbers of waiting and listed, the same rows. What the two arrays have beyond the waiting
 -- list is free: so the lists are equal, and not the arrays.

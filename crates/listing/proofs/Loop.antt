@@ -59,51 +59,62 @@ module _ {ws : List Waiter} {count : ℕ → ℕ} {k : ℕ} {f f′ q t : ℕ �
 -- ---- the walk
 
 -- q, t, f and k are the queue, the turns, the rows and the ranks given at the entry
-pub record Walk (q t f count : ℕ → ℕ) (waiting k : ℕ) (queue turns rows : List ℕ) (rank kept j : ℕ) : Type 0 where
-  pub can : CanList q waiting k
+pub record Walk (q₀ t₀ f₀ : List ℕ) (count : ℕ → ℕ) (waiting k : ℕ) (queue turns rows : List ℕ) (rank kept j : ℕ) : Type 0 where
+  pub can : CanList q₀ t₀ f₀ waiting k
   pub within : j ≤ waiting
-  pub lengths : (length queue ≡ 1024) × (length turns ≡ 1024) × (length rows ≡ 5120)
-  pub queued : (m : ℕ) → j ≤ m → asFun queue m ≡ q m
-  pub turned : (m : ℕ) → j ≤ m → asFun turns m ≡ t m
-  pub done : Lists (queueOf q t j) count k f (asFun rows) (asFun queue) (asFun turns) (record { waiting = kept; rank = rank })
+  pub lengths : (length queue ≡ length q₀) × (length turns ≡ length t₀) × (length rows ≡ length f₀)
+  pub queued : (m : ℕ) → j ≤ m → asFun queue m ≡ asFun q₀ m
+  pub turned : (m : ℕ) → j ≤ m → asFun turns m ≡ asFun t₀ m
+  pub done : Lists (queueOf (asFun q₀) (asFun t₀) j) count k (asFun f₀) (asFun rows) (asFun queue) (asFun turns) (record { waiting = kept; rank = rank })
 
 pub starts : {count : ℕ → ℕ} {waiting k : ℕ} {queue turns rows : List ℕ}
-    → CanList (asFun queue) waiting k → length queue ≡ 1024 → length turns ≡ 1024 → length rows ≡ 5120
-    → Walk (asFun queue) (asFun turns) (asFun rows) count waiting k queue turns rows k 0 0
+    → CanList queue turns rows waiting k → Walk queue turns rows count waiting k queue turns rows k 0 0
 unfolding queueOf keep operationsOf ranked
-starts can a b c =
+starts can =
     record {
       can = can;
       within = omega arith;
-      lengths = (a, b, c);
+      lengths = (refl, refl, refl);
       queued = λ m h. refl;
       turned = λ m h. refl;
       done = record { waiting = refl; rank = sym (add-zero _); rows = refl; fewer = omega arith };
     }
 
 -- what the code needs to know in a turn
-pub record Room (queue : List ℕ) (rank kept j : ℕ) : Type 0 where
-  pub index : j < 1024
+pub record Room (queue turns rows : List ℕ) (rank kept j : ℕ) : Type 0 where
+  pub index : j < length queue
+  pub turn : j < length turns
+  pub few : length queue ≤ 1024
   pub fewer : kept ≤ j
   pub ranks : rank + 1 < 2 ^ 32
-  pub operation : getD queue j 0 / 64 < 1024
+  pub operation : getD queue j 0 / 64 < length queue
+  pub rowsFit : 5 * length queue ≤ length rows
 
-module _ {q t f count : ℕ → ℕ} {waiting k : ℕ} {queue turns rows : List ℕ} {rank kept j : ℕ}
-    (w : Walk q t f count waiting k queue turns rows rank kept j) where
+module _ {q₀ t₀ f₀ : List ℕ} {count : ℕ → ℕ} {waiting k : ℕ} {queue turns rows : List ℕ} {rank kept j : ℕ}
+    (w : Walk q₀ t₀ f₀ count waiting k queue turns rows rank kept j) where
+  abbrev q : ℕ → ℕ
+  q = asFun q₀
+
+  abbrev t : ℕ → ℕ
+  t = asFun t₀
+
   -- at the end all are listed
-  pub all-listed : waiting ≤ j → Lists (queueOf q t waiting) count k f (asFun rows) (asFun queue) (asFun turns) (record { waiting = kept; rank = rank })
+  pub all-listed : waiting ≤ j → Lists (queueOf (asFun q₀) (asFun t₀) waiting) count k (asFun f₀) (asFun rows) (asFun queue) (asFun turns) (record { waiting = kept; rank = rank })
   all-listed h = let e : waiting ≡ j = omega (arith, w .within) in rw e (w .done)
 
   module _ (h : j < waiting) where
-    pub room : Room queue rank kept j
+    pub room : Room queue turns rows rank kept j
     unfolding asFun
     room =
         let n = length-queueOf q t j in
         record {
-          index = omega (arith, w .can .most);
+          index = omega (arith, w .can .most, w .lengths .0);
+          turn = omega (arith, w .can .most, w .can .sizes .turnsFit, w .lengths .1);
+          few = omega (arith, w .can .sizes .few, w .lengths .0);
+          rowsFit = omega (arith, w .can .sizes .rowsFit, w .lengths .0, w .lengths .2);
           fewer = omega (arith, w .done .fewer);
           ranks = omega (arith, w .can .ranks, lists-all (w .done));
-          operation = omega (arith, w .queued j (omega arith), w .can .operations j h);
+          operation = omega (arith, w .queued j (omega arith), w .can .operations j h, w .lengths .0);
         }
 
     next : queueOf q t (j + 1) ≡ queueOf q t j ++ (waiter (asFun queue j) (asFun turns j) ∷ [])
@@ -111,10 +122,10 @@ module _ {q t f count : ℕ → ℕ} {waiting k : ℕ} {queue turns rows : List 
     next = rw (add-one, w .queued j (omega arith), w .turned j (omega arith))
 
     pub lists-it : getD turns j 0 < count (getD queue j 0 % 64)
-        → Walk q t f count waiting k queue turns (set rows (5 * (getD queue j 0 / 64) + 3) (rank + 1)) (rank + 1) kept (j + 1)
+        → Walk q₀ t₀ f₀ count waiting k queue turns (set rows (5 * (getD queue j 0 / 64) + 3) (rank + 1)) (rank + 1) kept (j + 1)
     unfolding asFun isCounted
     lists-it less =
-        let at : 5 * (getD queue j 0 / 64) + 3 < length rows = omega (arith, room .operation, w .lengths .2) in
+        let at : 5 * (getD queue j 0 / 64) + 3 < length rows = omega (arith, room .operation, room .rowsFit) in
         record {
           can = w .can;
           within = omega arith;
@@ -125,12 +136,12 @@ module _ {q t f count : ℕ → ℕ} {waiting k : ℕ} {queue turns rows : List 
         }
 
     pub keeps-it : count (getD queue j 0 % 64) ≤ getD turns j 0
-        → Walk q t f count waiting k (set queue kept (getD queue j 0)) (set turns kept (getD turns j 0)) rows rank (kept + 1) (j + 1)
+        → Walk q₀ t₀ f₀ count waiting k (set queue kept (getD queue j 0)) (set turns kept (getD turns j 0)) rows rank (kept + 1) (j + 1)
     unfolding asFun isCounted
     keeps-it not-less =
         let r = room in
-        let at = fun-set queue kept (getD queue j 0) (omega (arith, w .lengths .0)) in
-        let at′ = fun-set turns kept (getD turns j 0) (omega (arith, w .lengths .1)) in
+        let at = fun-set queue kept (getD queue j 0) (omega (arith, r .index, r .fewer)) in
+        let at′ = fun-set turns kept (getD turns j 0) (omega (arith, r .turn, r .fewer)) in
         record {
           can = w .can;
           within = omega arith;

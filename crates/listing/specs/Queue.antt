@@ -3,7 +3,7 @@ use Prim.Native.Nat.{ℕ, zero, suc, _+_, _*_, _/_, _%_, _^_, _≤_, _<_}
 use mathlib.Core.Path.{_≡_}
 use mathlib.Core.Bool.{Bool, not}
 use mathlib.Core.List.{List, [], _∷_, _++_, map}
-use lib.ListN.{length}
+use lib.ListN.{length, getD}
 use lib.Dec.{ltb}
 use Rattle.meaning.specs.Steps.{upd}
 use Rattle.meaning.specs.TakenIn.{keep}
@@ -37,8 +37,15 @@ pub record Lists (ws : List Waiter) (count : ℕ → ℕ) (k : ℕ) (f f′ queu
   pub rows : f′ ≡ ranked (operationsOf (keep (isCounted count) ws)) k f
   pub fewer : r .waiting ≤ length ws
 
--- what it asks: a queue of at most 1,024 entries, each of an operation below 1,024, and room for the ranks
-pub record CanList (queue : ℕ → ℕ) (waiting rank : ℕ) : Type 0 where
-  pub most : waiting ≤ 1024
-  pub operations : (j : ℕ) → j < waiting → queue j / 64 < 1024
+-- arrays for as many operations as the queue has entries
+pub record Sizes (queue turns rows : List ℕ) : Type 0 where
+  pub few : length queue ≤ 1024
+  pub turnsFit : length queue ≤ length turns
+  pub rowsFit : 5 * length queue ≤ length rows
+
+-- what it asks: that many waiters at most, each of an operation that has a row, and room for the ranks
+pub record CanList (queue turns rows : List ℕ) (waiting rank : ℕ) : Type 0 where
+  pub sizes : Sizes queue turns rows
+  pub most : waiting ≤ length queue
+  pub operations : (j : ℕ) → j < waiting → getD queue j 0 / 64 < length queue
   pub ranks : rank + waiting < 2 ^ 32

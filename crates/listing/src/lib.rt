@@ -1,5 +1,5 @@
 // The queue of additions that are in their leaves and not yet in node 1, and their listing.
-ghost use Prim.Native.Nat.{ℕ, _+_, _*_, _≤_, _<_};
+ghost use Prim.Native.Nat.{_+_, _*_, _<_};
 ghost use mathlib.Core.Path.{_≡_};
 ghost use lib.ListN.{length};
 ghost use Rattle.meaning.specs.Steps.{upd};
@@ -12,52 +12,34 @@ pub struct Listed {
     pub rank: u32,
 }
 
-// A proof of a lent array does not know its length: these two say it, and nothing is left of them at run time.
-fn of_1024(a: [u16; 1024]) -> bool
-    ensures { λ r. ⌜ length a ≡ 1024 ⌝ }
-{
-    true
-}
-
-fn of_5120(a: [u32; 5120]) -> bool
-    ensures { λ r. ⌜ length a ≡ 5120 ⌝ }
-{
-    true
-}
-
 // One more at the end of the queue: operation and process, and its turn.
 pub fn wait(
-    queue: &mut [u16; 1024],
-    turns: &mut [u16; 1024],
+    queue: &mut [u16],
+    turns: &mut [u16],
     waiting: usize,
-    operation: u32,
+    operation: u16,
     p: usize,
     turn: u16,
 )
-    requires { ⌜ (waiting < 1024) × (operation < 1024) × (p < 64) ⌝ }
+    requires { ⌜ (waiting < length (now queue)) × (waiting < length (now turns)) × (operation < 1024) × (p < 64) ⌝ }
     ensures queue { λ r. ⌜ asFun (now (queue .exit)) ≡ upd (asFun (now (queue .entry))) waiting (operation * 64 + p) ⌝ }
     ensures turns { λ r. ⌜ asFun (now (turns .exit)) ≡ upd (asFun (now (turns .entry))) waiting turn ⌝ }
 {
-    of_1024(*queue);
-    of_1024(*turns);
     queue[waiting] = (operation as usize * 64 + p) as u16;
     turns[waiting] = turn;
 }
 
 // Lists those of the queue that are in node 1 by these counts, in order, and keeps the others.
 pub fn list_in(
-    queue: &mut [u16; 1024],
-    turns: &mut [u16; 1024],
-    rows: &mut [u32; 5120],
+    queue: &mut [u16],
+    turns: &mut [u16],
+    rows: &mut [u32],
     listed: Listed,
     counts: [u16; 64],
 ) -> Listed
-    requires { ⌜ CanList (asFun (now queue)) (listed .waiting) (listed .rank) ⌝ }
+    requires { ⌜ CanList (now queue) (now turns) (now rows) (listed .waiting) (listed .rank) ⌝ }
     ensures { λ r. ⌜ Lists (queueOf (asFun (now (queue .entry))) (asFun (now (turns .entry))) (listed .waiting)) (asFun counts) (listed .rank) (asFun (now (rows .entry))) (asFun (now (rows .exit))) (asFun (now (queue .exit))) (asFun (now (turns .exit))) r ⌝ }
 {
-    of_1024(*queue);
-    of_1024(*turns);
-    of_5120(*rows);
     let count = counts;
     let waiting = listed.waiting;
     let mut rank = listed.rank;

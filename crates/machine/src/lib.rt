@@ -15,12 +15,12 @@ ghost use Rattle.machine.specs.Nexts.{CanStep, CanTry, Nexts, NodeOf};
 // A step number of 0 is idle. `stored` tells whether the latest access was an SC that succeeded.
 pub struct Process {
     pub step: u32,
-    pub operation: u32,
-    pub adds: bool,
     pub delta: u32,
     pub seen: u32,
     pub seen_left: u32,
     pub seen_right: u32,
+    pub operation: u16,
+    pub adds: bool,
     pub stored: bool,
 }
 
@@ -120,7 +120,7 @@ impl Process {
     }
 
     // The record right after a start record.
-    pub fn started(operation: u32, adds: bool, delta: u32) -> Process
+    pub fn started(operation: u16, adds: bool, delta: u32) -> Process
         ensures { λ r. ⌜ r ≡ startedRecord operation adds delta ⌝ }
     {
         Process {

@@ -8,13 +8,6 @@ ghost use Rattle.meaning.specs.Report.{one};
 ghost use Rattle.arrays.specs.Arrays.{asFun};
 ghost use Rattle.rows.specs.Rows.{freshNumbers, steppedNumbers, withRow, RoomToStep, numbersBytes, laidAt, laidReport};
 
-// That the array has its length, for the proofs.
-fn sized(rows: [u32; 5120]) -> bool
-    ensures { λ r. ⌜ length rows ≡ 5120 ⌝ }
-{
-    true
-}
-
 fn wide(x: u8) -> u32
     ensures { λ r. ⌜ r ≡ x ⌝ }
 {
@@ -36,19 +29,10 @@ fn counted(b: bool) -> u32
 }
 
 // Five numbers as row i.
-fn lay_row(
-    rows: &mut [u32; 5120],
-    i: usize,
-    head: u32,
-    steps: u32,
-    answer: u32,
-    rank: u32,
-    seconds: u32,
-)
-    requires { ⌜ i < 1024 ⌝ }
+fn lay_row(rows: &mut [u32], i: usize, head: u32, steps: u32, answer: u32, rank: u32, seconds: u32)
+    requires { ⌜ (i < 1024) × (5 * i + 5 ≤ length (now rows)) ⌝ }
     ensures { λ r. ⌜ asFun (now (rows .exit)) ≡ withRow (asFun (now (rows .entry))) i (head ∷ steps ∷ answer ∷ rank ∷ seconds ∷ []) ⌝ }
 {
-    sized(*rows);
     let at = 5 * i;
     rows[at] = head;
     rows[at + 1] = steps;
@@ -58,16 +42,16 @@ fn lay_row(
 }
 
 // Row i right after its start record.
-pub fn start_row(rows: &mut [u32; 5120], i: usize, p: u8, kind: u8, contention: u8)
-    requires { ⌜ i < 1024 ⌝ }
+pub fn start_row(rows: &mut [u32], i: usize, p: u8, kind: u8, contention: u8)
+    requires { ⌜ (i < 1024) × (5 * i + 5 ≤ length (now rows)) ⌝ }
     ensures { λ r. ⌜ asFun (now (rows .exit)) ≡ withRow (asFun (now (rows .entry))) i (freshNumbers p kind contention) ⌝ }
 {
     lay_row(rows, i, number(p, kind, 0, contention), 0, 0, 0, 0);
 }
 
 // Row i after one more step.
-pub fn step_row(rows: &mut [u32; 5120], i: usize, finished: bool, answer: u32, second: bool)
-    requires { ⌜ RoomToStep (asFun (now rows)) i ⌝ }
+pub fn step_row(rows: &mut [u32], i: usize, finished: bool, answer: u32, second: bool)
+    requires { ⌜ RoomToStep (asFun (now rows)) i × (5 * i + 5 ≤ length (now rows)) ⌝ }
     ensures { λ r. ⌜ asFun (now (rows .exit)) ≡ withRow (asFun (now (rows .entry))) i (steppedNumbers (asFun (now (rows .entry))) i finished answer second) ⌝ }
 {
     let at = 5 * i;
@@ -90,8 +74,8 @@ fn lay_number(out: &mut [u8], at: usize, x: u32)
 }
 
 // The bytes of the first k numbers, from place 9 on.
-fn lay_numbers(out: &mut [u8], k: usize, rows: &[u32; 5120])
-    requires { ⌜ (k ≤ 5120) × (9 + 4 * k ≤ length (now out)) ⌝ }
+fn lay_numbers(out: &mut [u8], k: usize, rows: &[u32])
+    requires { ⌜ (k ≤ 5120) × (k ≤ length (now rows)) × (9 + 4 * k ≤ length (now out)) ⌝ }
     ensures { λ r. ⌜ now (out .exit) ≡ laidAt (now (out .entry)) 9 (4 * k) (numbersBytes (asFun (now (rows .entry))) k) ⌝ }
 {
     for j in 0..k {
@@ -100,8 +84,8 @@ fn lay_numbers(out: &mut [u8], k: usize, rows: &[u32; 5120])
 }
 
 // The report of m rows at the front of a buffer that has room for it.
-pub fn lay_report(out: &mut [u8], m: usize, counter: u32, rows: &[u32; 5120])
-    requires { ⌜ (m ≤ 1024) × (9 + 20 * m ≤ length (now out)) ⌝ }
+pub fn lay_report(out: &mut [u8], m: usize, counter: u32, rows: &[u32])
+    requires { ⌜ (m ≤ 1024) × (5 * m ≤ length (now rows)) × (9 + 20 * m ≤ length (now out)) ⌝ }
     ensures { λ r. ⌜ now (out .exit) ≡ laidReport m counter (asFun (now (rows .entry))) (now (out .entry)) ⌝ }
 {
     out[0] = 1;

@@ -47,15 +47,24 @@ read-child-requires-2 c κs = search needs
 store-requires : tie.Need-store-requires
 store-requires c κs = search needs
 
+same-length : tie.Need-same-length
+same-length c = search needs
+
 returns : tie.Need-returns
 returns c =
-    c .read-child .ensures
-    ∙ left-read (bounds (c .before .before .before .before)) _ _ _ (c .before .before .before .match .keys1)
+    c .before .read-child .ensures
+    ∙ left-read (bounds (c .before .before .before .before .before)) _ _ _ (c .before .before .before .before .match .keys1)
+
+same-length-2 : tie.Need-same-length-2
+same-length-2 c = search needs
 
 returns-2 : tie.Need-returns-2
 returns-2 c =
-    c .read-child2 .ensures
-    ∙ right-read (bounds (c .before .before .before .before)) _ _ _ (c .before .before .before .match .keys2)
+    c .before .read-child2 .ensures
+    ∙ right-read (bounds (c .before .before .before .before .before)) _ _ _ (c .before .before .before .before .match .keys2)
+
+same-length-3 : tie.Need-same-length-3
+same-length-3 c = search needs
 
 returns-3 : tie.Need-returns-3
 returns-3 c =
@@ -83,8 +92,11 @@ attempt-spec =
     read-child-requires
     read-child-requires-2
     store-requires
+    same-length
     returns
+    same-length-2
     returns-2
+    same-length-3
     returns-3
     returns-4
     returns-5)

@@ -1,45 +1,48 @@
--- `read_child`: the row that `copied` gives, stored at p, is the read of the definition.
-use native.Mathlib.Omega.{arith}
+-- `read_child`: the row of the child's level, the leaves' own or one of the six above, is copied.
+use Rattle.counts.proofs.Stores.{leaves-level, node-level, read-stored}
 use borrow.Author.Needs.{needs}
-use Rattle.arrays.specs.Arrays.{asRows}
-use Rattle.counts.proofs.Stores.{read-stored}
 use Rattle.counts.proofs.read_child.Statement.{statement}
 use Rattle.counts.proofs.read_child.Tie as tie
 
-sixty-four-rows-requires : tie.Need-sixty-four-rows-requires
-sixty-four-rows-requires c κs = search needs
+copy-row-requires : tie.Need-copy-row-requires
+copy-row-requires c κs = search needs
 
-mul-copied : tie.Need-mul-copied
-mul-copied c = search needs
+sub-copy-row : tie.Need-sub-copy-row
+sub-copy-row c = search needs
 
-element-copy-out-copied : tie.Need-element-copy-out-copied
-element-copy-out-copied c = search needs
+mul-copy-row : tie.Need-mul-copy-row
+mul-copy-row c = search needs
 
-at-level-requires : tie.Need-at-level-requires
-at-level-requires c κs = search needs
+index-1-copy-row : tie.Need-index-1-copy-row
+index-1-copy-row c = search needs
 
-copied-requires : tie.Need-copied-requires
-copied-requires c κs = search needs
+copy-row-requires-2 : tie.Need-copy-row-requires-2
+copy-row-requires-2 c κs = search needs
 
-mul-t16 : tie.Need-mul-t16
-mul-t16 c = search needs
-
-element-set-from-read : tie.Need-element-set-from-read
-element-set-from-read c = search needs
+same-length : tie.Need-same-length
+same-length c = search needs
 
 returns : tie.Need-returns
-unfolding asRows
-returns c = read-stored _ _ _ _ _ _ _ _ _ (omega arith) (c .before .at-level .ensures) (c .copied .ensures)
+returns c =
+    read-stored _ _ _ _ _ _ _ _ _ (leaves-level _ _ _ ((c .before .before .before .if1) .taken)) ((c .before .copy-row) .ensures)
+
+same-length-2 : tie.Need-same-length-2
+same-length-2 c = search needs
+
+returns-2 : tie.Need-returns-2
+returns-2 c =
+    read-stored _ _ _ _ _ _ _ _ _ (node-level _ _ _ ((c .before .before .before .before .if1) .left)) ((c .before .copy-row2) .ensures)
 
 pub read-child-spec : {M : Type 1} → statement M
 read-child-spec =
     tie.close
     (tie.spec
-    sixty-four-rows-requires
-    mul-copied
-    element-copy-out-copied
-    at-level-requires
-    copied-requires
-    mul-t16
-    element-set-from-read
-    returns)
+    copy-row-requires
+    sub-copy-row
+    mul-copy-row
+    index-1-copy-row
+    copy-row-requires-2
+    same-length
+    returns
+    same-length-2
+    returns-2)

@@ -42,9 +42,12 @@ cast-l c = search needs
 attempt-requires : tie.Need-attempt-requires
 attempt-requires c κs = search needs
 
+same-length : tie.Need-same-length
+same-length c = search needs
+
 returns-3 : tie.Need-returns-3
 unfolding levelAt positionAt
-returns-3 c = c .attempt .ensures ∙ sym (after-attempt _ _ _ _ (c .before .before .before .before .if2 .left))
+returns-3 c = c .before .attempt .ensures ∙ sym (after-attempt _ _ _ _ (c .before .before .before .before .before .if2 .left))
 
 pub take-in-spec : {M : Type 1} → statement M
 take-in-spec =
@@ -60,4 +63,5 @@ take-in-spec =
     returns-2
     cast-l
     attempt-requires
+    same-length
     returns-3)

@@ -1,10 +1,11 @@
--- `check` meets its contract: the header's refusal, or the records' answer.
+-- `check` meets its contract: the header's refusal, or how the run ends.
 use mathlib.Core.Path.{sym, ap, _∙_}
 use Rattle.meaning.specs.Layout.{height}
 use Rattle.meaning.specs.Report.{checkWith, checkAnswer}
 use Rattle.rules.proofs.Laws.{header-passes}
+use Rattle.ledger.proofs.Good.{false-true}
 use Rattle.engine.specs.Ends.{answerOf}
-use Rattle.engine.proofs.Answers.{head-refused, head-passed}
+use Rattle.engine.proofs.Answers.{head-refused, head-passed, check-ends}
 use native.Mathlib.Omega.{arith}
 use borrow.Author.Needs.{needs}
 use Rattle.engine.proofs.check.Statement.{statement}
@@ -18,23 +19,35 @@ unfolding checkAnswer checkWith answerOf
 returns c =
     ap checkWith (sym (head-refused _ _ ((c .before .header) .ensures) ((c .if1) .taken)))
 
-shared-slice-read-check-records : tie.Need-shared-slice-read-check-records
-shared-slice-read-check-records c =
+shared-slice-read-run : tie.Need-shared-slice-read-run
+shared-slice-read-run c =
     header-passes _ (sym ((c .before .before .header) .ensures) ∙ (c .before .if1) .left) .enough
 
-cast-check-records : tie.Need-cast-check-records
-cast-check-records c =
+cast-run : tie.Need-cast-run
+cast-run c =
     omega (arith, (c .shared-slice-known2) .given 5)
 
-check-records-requires : tie.Need-check-records-requires
+slice-aggregate-run : tie.Need-slice-aggregate-run
+slice-aggregate-run c = search needs
+
+slice-aggregate-run-2 : tie.Need-slice-aggregate-run-2
+slice-aggregate-run-2 c = search needs
+
+slice-aggregate-run-3 : tie.Need-slice-aggregate-run-3
+slice-aggregate-run-3 c = search needs
+
+slice-aggregate-run-4 : tie.Need-slice-aggregate-run-4
+slice-aggregate-run-4 c = search needs
+
+run-requires : tie.Need-run-requires
 unfolding height
-check-records-requires c κs =
-    let w = header-passes _ (sym ((c .before .before .header) .ensures) ∙ (c .before .if1) .left) in (w .high, w .low, w .short)
+run-requires c κs =
+    let w = header-passes _ (sym ((c .before .before .before .before .before .before .header) .ensures) ∙ (c .before .before .before .before .before .if1) .left) in (w .high, w .low, w .enough, w .short, λ a. absurd (false-true a))
 
 returns-2 : tie.Need-returns-2
-unfolding checkAnswer height
+unfolding checkAnswer answerOf height
 returns-2 c =
-    (c .check-records) .ensures ∙ ap checkWith (sym (head-passed _ _ ((c .before .before .before .header) .ensures) ((c .before .before .if1) .left)))
+    check-ends _ _ _ _ _ ((c .before .before .before .before .run) .ensures) ∙ ap checkWith (sym (head-passed _ _ ((c .before .before .before .before .before .before .before .before .before .before .before .header) .ensures) ((c .before .before .before .before .before .before .before .before .before .before .if1) .left)))
 
 pub check-spec : {M : Type 1} → statement M
 check-spec =
@@ -42,7 +55,11 @@ check-spec =
     (tie.spec
     header-requires
     returns
-    shared-slice-read-check-records
-    cast-check-records
-    check-records-requires
+    shared-slice-read-run
+    cast-run
+    slice-aggregate-run
+    slice-aggregate-run-2
+    slice-aggregate-run-3
+    slice-aggregate-run-4
+    run-requires
     returns-2)

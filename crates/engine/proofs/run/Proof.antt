@@ -1,23 +1,23 @@
 -- `run` meets its contract: each way out is one of the invariant's, and each turn takes it on by one record.
-use Prim.Native.Nat.{_-_}
-use mathlib.Core.Path.{refl, sym, ap, _∙_}
-use lib.ListN.{length, set}
+use Prim.Native.Nat.{_+_, _-_}
+use mathlib.Core.Path.{refl}
+use lib.ListN.{length}
 use Rattle.machine.specs.Arrays.{idleRecord}
 use Rattle.keeping.specs.Keeping.{keptOf}
-use Rattle.engine.proofs.Room.{can-keep}
+use Rattle.engine.proofs.Room.{can-keep, Same, room-still}
 use Rattle.engine.proofs.Runs.{RunsKept, runs-stopped, inside, low, acting, room, can-step, runs-kept-step, runs-kept-start, ends-accepted, ends-refused}
 use Rattle.engine.proofs.Loop.{begins-kept, kept-started}
-use Rattle.engine.proofs.Tries.{tried-end, tried-stopped, tried-passes}
+use Rattle.engine.proofs.Tries.{tried-end, tried-stopped, tried-step, tried-start}
 use borrow.Author.Needs.{needs}
 use native.Mathlib.Omega.{arith}
 use Rattle.engine.proofs.run.Statement.{statement}
 use Rattle.engine.proofs.run.Tie as tie
 
 abbrev Inv-loop : tie.InvT-loop
-Inv-loop s h rows₀ vals₀ links₀ counts₀ written₀ read₀ queue₀ turns₀ procs₀ listed₀ busy₀ m₀ at₀ rows vals links counts written read queue turns procs listed busy m at = RunsKept s h at vals links procs busy m (keptOf counts written read queue turns rows listed)
+Inv-loop s h asked read₀ queue₀ turns₀ rows₀ vals₀ links₀ counts₀ written₀ procs₀ listed₀ busy₀ m₀ at₀ read queue turns rows vals links counts written procs listed busy m at = RunsKept s h at vals links procs busy m asked (keptOf counts written read queue turns rows listed) × Same read₀ read queue₀ queue turns₀ turns rows₀ rows
 
 abbrev μ-loop : tie.MeasureT-loop
-μ-loop s h rows₀ vals₀ links₀ counts₀ written₀ read₀ queue₀ turns₀ procs₀ listed₀ busy₀ m₀ at₀ rows vals links counts written read queue turns procs listed busy m at = length s - at
+μ-loop s h asked read₀ queue₀ turns₀ rows₀ vals₀ links₀ counts₀ written₀ procs₀ listed₀ busy₀ m₀ at₀ read queue turns rows vals links counts written procs listed busy m at = length s - at
 
 idle-requires : tie.Need-idle-requires Inv-loop μ-loop
 idle-requires c κs = search needs
@@ -26,113 +26,152 @@ empty-requires : tie.Need-empty-requires Inv-loop μ-loop
 empty-requires c κs = search needs
 
 loop-holds : tie.Need-loop-holds Inv-loop μ-loop
-loop-holds c =
-    begins-kept ((c .before .before .before .args) .s .now) ((c .before .before .before .args) .h) ((c .before .idle) .result) ((c .empty) .result) ((c .before .before .before .pre) .0) ((c .before .before .before .pre) .1) ((c .before .idle) .ensures) ((c .empty) .ensures) 128 64 64 refl ((c .before .before .before .args) .rows .now) 6 64 64 1024
+loop-holds c = (
+  begins-kept ((c .before .before .before .before .before .before .args) .s .now) ((c .before .before .before .before .before .before .args) .h) ((c .before .idle) .result) ((c .empty) .result) ((c .before .before .before .before .before .before .pre) .0) ((c .before .before .before .before .before .before .pre) .1) ((c .before .before .before .before .before .before .pre) .2) ((c .before .idle) .ensures) ((c .empty) .ensures) 128 64 64 refl ((c .before .before .before .before .before .before .args) .asked) ((c .before .before .before .before .before .before .args) .read .now) ((c .before .before .before .before .before .before .args) .queue .now) ((c .before .before .before .before .before .before .args) .turns .now) ((c .before .before .before .before .before .before .args) .rows .now) 6 64,
+  record { ofRead = refl; ofQueue = refl; ofTurns = refl; ofRows = refl },
+)
 
 try-at-requires : tie.Need-try-at-requires Inv-loop μ-loop
 try-at-requires c κs =
-    (c .before .before .before .before .pre) .1
+    (c .before .before .before .before .before .before .before .pre) .1
 
 enum-told : tie.Need-enum-told Inv-loop μ-loop
 enum-told c = search needs
 
-array-read-t28 : tie.Need-array-read-t28 Inv-loop μ-loop
-array-read-t28 c = search needs
+array-read-t32 : tie.Need-array-read-t32 Inv-loop μ-loop
+array-read-t32 c = search needs
+
+same-length : tie.Need-same-length Inv-loop μ-loop
+same-length c =
+    (c .before .before .before .loop) .inv .1 .ofRead
+
+same-length-2 : tie.Need-same-length-2 Inv-loop μ-loop
+same-length-2 c =
+    (c .before .before .before .loop) .inv .1 .ofQueue
+
+same-length-3 : tie.Need-same-length-3 Inv-loop μ-loop
+same-length-3 c =
+    (c .before .before .before .loop) .inv .1 .ofTurns
+
+same-length-4 : tie.Need-same-length-4 Inv-loop μ-loop
+same-length-4 c =
+    (c .before .before .before .loop) .inv .1 .ofRows
 
 returns : tie.Need-returns Inv-loop μ-loop
 returns c =
-    ends-accepted _ _ _ _ _ _ _ _ _ _ _ _ _ _ _ ((c .before .before .before .loop) .inv) (tried-end _ _ _ _ _ _ ((c .before .before .try-at) .ensures) ((c .enum-told) .given .1)) _ refl refl refl refl
+    ends-accepted _ _ _ _ _ _ _ _ _ _ _ _ _ _ _ _ ((c .before .before .before .loop) .inv .0) (tried-end _ _ _ _ _ _ ((c .before .before .try-at) .ensures) ((c .enum-told) .given .1)) _ refl refl refl refl
 
 enum-known-number : tie.Need-enum-known-number Inv-loop μ-loop
 enum-known-number c = search needs
 
 refused-requires : tie.Need-refused-requires Inv-loop μ-loop
 refused-requires c κs =
-    omega (arith, tried-stopped _ _ _ _ _ _ ((c .before .before .before .try-at) .ensures) _ _ ((c .before .number) .given .1) .inside, (c .before .before .before .before .before .before .before .before .pre) .2)
+    omega (arith, (tried-stopped _ _ _ _ _ _ ((c .before .before .before .try-at) .ensures) _ _ ((c .before .number) .given .1)) .inside, (c .before .before .before .before .before .before .before .before .before .before .before .pre) .3)
+
+same-length-5 : tie.Need-same-length-5 Inv-loop μ-loop
+same-length-5 c =
+    (c .before .before .before .before .before .loop) .inv .1 .ofRead
+
+same-length-6 : tie.Need-same-length-6 Inv-loop μ-loop
+same-length-6 c =
+    (c .before .before .before .before .before .loop) .inv .1 .ofQueue
+
+same-length-7 : tie.Need-same-length-7 Inv-loop μ-loop
+same-length-7 c =
+    (c .before .before .before .before .before .loop) .inv .1 .ofTurns
+
+same-length-8 : tie.Need-same-length-8 Inv-loop μ-loop
+same-length-8 c =
+    (c .before .before .before .before .before .loop) .inv .1 .ofRows
 
 returns-2 : tie.Need-returns-2 Inv-loop μ-loop
 returns-2 c =
-    ends-refused _ _ _ _ _ _ (runs-stopped _ _ _ _ _ _ _ _ ((c .before .before .before .before .before .loop) .inv .runs) _ _ (tried-stopped _ _ _ _ _ _ ((c .before .before .before .before .try-at) .ensures) _ _ ((c .before .before .number) .given .1))) ((c .refused) .ensures)
+    ends-refused _ _ _ _ _ _ _ _ (runs-stopped _ _ _ _ _ _ _ _ ((c .before .before .before .before .before .loop) .inv .0 .runs) _ _ (tried-stopped _ _ _ _ _ _ ((c .before .before .before .before .try-at) .ensures) _ _ ((c .before .before .number) .given .1))) ((c .refused) .ensures)
 
-enum-known-e : tie.Need-enum-known-e Inv-loop μ-loop
-enum-known-e c = search needs
+enum-known-p : tie.Need-enum-known-p Inv-loop μ-loop
+enum-known-p c = search needs
 
-process-of-requires : tie.Need-process-of-requires Inv-loop μ-loop
-process-of-requires c κs = search needs
-
-is-start-requires : tie.Need-is-start-requires Inv-loop μ-loop
-is-start-requires c κs = search needs
+cast-started : tie.Need-cast-started Inv-loop μ-loop
+cast-started c =
+    omega (arith, room _ _ _ _ _ _ _ _ ((c .before .before .before .before .loop) .inv .0 .runs) _ _ _ _ (tried-start _ _ _ _ _ _ ((c .before .before .before .try-at) .ensures) _ _ _ _ ((c .before .p) .given .1)))
 
 started-requires : tie.Need-started-requires Inv-loop μ-loop
 started-requires c κs = search needs
 
 mul-procs : tie.Need-mul-procs Inv-loop μ-loop
 mul-procs c =
-    omega (arith, low _ _ _ _ _ _ _ _ ((c .before .before .before .before .before .before .before .before .loop) .inv .runs) _ _ (tried-passes _ _ _ _ _ _ ((c .before .before .before .before .before .before .before .try-at) .ensures) _ _ ((c .before .before .before .before .before .e) .given .1)) _ ((c .before .before .before .process-of) .ensures))
+    omega (arith, low _ _ _ _ _ _ _ _ ((c .before .before .before .before .before .loop) .inv .0 .runs) _ _ _ ((tried-start _ _ _ _ _ _ ((c .before .before .before .before .try-at) .ensures) _ _ _ _ ((c .before .before .p) .given .1)) .goes))
 
 array-set-from-procs : tie.Need-array-set-from-procs Inv-loop μ-loop
 array-set-from-procs c =
-    low _ _ _ _ _ _ _ _ ((c .before .before .before .before .before .before .before .before .loop) .inv .runs) _ _ (tried-passes _ _ _ _ _ _ ((c .before .before .before .before .before .before .before .try-at) .ensures) _ _ ((c .before .before .before .before .before .e) .given .1)) _ ((c .before .before .before .process-of) .ensures)
+    low _ _ _ _ _ _ _ _ ((c .before .before .before .before .before .loop) .inv .0 .runs) _ _ _ ((tried-start _ _ _ _ _ _ ((c .before .before .before .before .try-at) .ensures) _ _ _ _ ((c .before .before .p) .given .1)) .goes)
 
 put-requires : tie.Need-put-requires Inv-loop μ-loop
 put-requires c κs = search needs
 
-adds-requires : tie.Need-adds-requires Inv-loop μ-loop
-adds-requires c κs = search needs
-
 start-row-requires : tie.Need-start-row-requires Inv-loop μ-loop
-start-row-requires c κs =
-    (room _ _ _ _ _ _ _ _ ((c .before .before .before .before .before .before .before .before .before .before .before .loop) .inv .runs) _ _ (tried-passes _ _ _ _ _ _ ((c .before .before .before .before .before .before .before .before .before .before .try-at) .ensures) _ _ ((c .before .before .before .before .before .before .before .before .e) .given .1)) _ ((c .before .before .before .before .before .before .process-of) .ensures) (sym ((c .before .before .before .before .before .is-start) .ensures) ∙ (c .before .before .before .before .if1) .taken), low _ _ _ _ _ _ _ _ ((c .before .before .before .before .before .before .before .before .before .before .before .loop) .inv .runs) _ _ (tried-passes _ _ _ _ _ _ ((c .before .before .before .before .before .before .before .before .before .before .try-at) .ensures) _ _ ((c .before .before .before .before .before .before .before .before .e) .given .1)) _ ((c .before .before .before .before .before .before .process-of) .ensures))
+start-row-requires c κs = (
+  room _ _ _ _ _ _ _ _ ((c .before .before .before .before .before .before .before .loop) .inv .0 .runs) _ _ _ _ (tried-start _ _ _ _ _ _ ((c .before .before .before .before .before .before .try-at) .ensures) _ _ _ _ ((c .before .before .before .before .p) .given .1)),
+  low _ _ _ _ _ _ _ _ ((c .before .before .before .before .before .before .before .loop) .inv .0 .runs) _ _ _ ((tried-start _ _ _ _ _ _ ((c .before .before .before .before .before .before .try-at) .ensures) _ _ _ _ ((c .before .before .before .before .p) .given .1)) .goes),
+  λ a. let w = (tried-start _ _ _ _ _ _ ((c .before .before .before .before .before .before .try-at) .ensures) _ _ _ _ ((c .before .before .before .before .p) .given .1)) .goes .stands in let r = (room-still _ _ ((c .before .before .before .before .before .before .before .loop) .inv .1) ((c .before .before .before .before .before .before .before .before .before .before .before .before .before .before .pre) .4 a)) in omega (arith, r .sizes .rowsFit, r .operations ((c .before .before .before .before .before .before .before .loop) .m + 1) (omega (arith, room _ _ _ _ _ _ _ _ ((c .before .before .before .before .before .before .before .loop) .inv .0 .runs) _ _ _ _ (tried-start _ _ _ _ _ _ ((c .before .before .before .before .before .before .try-at) .ensures) _ _ _ _ ((c .before .before .before .before .p) .given .1)))) (omega (arith, (c .before .before .before .before .before .before .before .loop) .inv .0 .runs .agrees .started, w .further, w .within))),
+)
 
 add-m : tie.Need-add-m Inv-loop μ-loop
 add-m c =
-    omega (arith, room _ _ _ _ _ _ _ _ ((c .before .before .before .before .before .before .before .before .before .before .before .before .loop) .inv .runs) _ _ (tried-passes _ _ _ _ _ _ ((c .before .before .before .before .before .before .before .before .before .before .before .try-at) .ensures) _ _ ((c .before .before .before .before .before .before .before .before .before .e) .given .1)) _ ((c .before .before .before .before .before .before .before .process-of) .ensures) (sym ((c .before .before .before .before .before .before .is-start) .ensures) ∙ (c .before .before .before .before .before .if1) .taken))
+    omega (arith, room _ _ _ _ _ _ _ _ ((c .before .before .before .before .before .before .before .before .before .before .loop) .inv .0 .runs) _ _ _ _ (tried-start _ _ _ _ _ _ ((c .before .before .before .before .before .before .before .before .before .try-at) .ensures) _ _ _ _ ((c .before .before .before .before .before .before .before .p) .given .1)))
+
+loop-less : tie.Need-loop-less Inv-loop μ-loop
+loop-less c =
+    let w = (tried-start _ _ _ _ _ _ ((c .before .before .before .before .before .before .before .before .before .try-at) .ensures) _ _ _ _ ((c .before .before .before .before .before .before .before .p) .given .1)) .goes .stands in omega (arith, w .further, w .within)
+
+loop-again : tie.Need-loop-again Inv-loop μ-loop
+loop-again c = (
+  runs-kept-start _ _ _ _ _ _ _ _ ((c .before .before .before .before .before .before .before .before .before .before .loop) .inv .0 .runs) _ _ _ _ (tried-start _ _ _ _ _ _ ((c .before .before .before .before .before .before .before .before .before .try-at) .ensures) _ _ _ _ ((c .before .before .before .before .before .before .before .p) .given .1)) _ _ (rw ((c .before .before .before .before .before .started) .ensures)) ((c .before .before .before .before .put) .ensures) _ _ _ _ ((c .before .before .before .before .before .before .before .before .before .before .loop) .inv .0 .ledger) refl (λ a. kept-started _ _ _ _ _ _ _ _ _ _ _ _ ((c .before .before .start-row) .ensures a)),
+  let w = (c .before .before .before .before .before .before .before .before .before .before .loop) .inv .1 in record { ofRead = w .ofRead; ofQueue = w .ofQueue; ofTurns = w .ofTurns; ofRows = omega (arith, (c .before .before .start-row) .kept, w .ofRows) },
+)
+
+enum-known-p-2 : tie.Need-enum-known-p-2 Inv-loop μ-loop
+enum-known-p-2 c = search needs
 
 mul-r : tie.Need-mul-r Inv-loop μ-loop
 mul-r c =
-    omega (arith, low _ _ _ _ _ _ _ _ ((c .before .before .before .before .before .before .before .loop) .inv .runs) _ _ (tried-passes _ _ _ _ _ _ ((c .before .before .before .before .before .before .try-at) .ensures) _ _ ((c .before .before .before .before .e) .given .1)) _ ((c .before .before .process-of) .ensures))
+    omega (arith, low _ _ _ _ _ _ _ _ ((c .before .before .before .before .loop) .inv .0 .runs) _ _ _ (tried-step _ _ _ _ _ _ ((c .before .before .before .try-at) .ensures) _ _ ((c .before .p2) .given .1)))
 
 array-copy-out-r : tie.Need-array-copy-out-r Inv-loop μ-loop
 array-copy-out-r c =
-    low _ _ _ _ _ _ _ _ ((c .before .before .before .before .before .before .before .loop) .inv .runs) _ _ (tried-passes _ _ _ _ _ _ ((c .before .before .before .before .before .before .try-at) .ensures) _ _ ((c .before .before .before .before .e) .given .1)) _ ((c .before .before .process-of) .ensures)
+    low _ _ _ _ _ _ _ _ ((c .before .before .before .before .loop) .inv .0 .runs) _ _ _ (tried-step _ _ _ _ _ _ ((c .before .before .before .try-at) .ensures) _ _ ((c .before .p2) .given .1))
 
 next-requires : tie.Need-next-requires Inv-loop μ-loop
 unfolding idleRecord
 next-requires c κs =
-    can-step _ _ _ _ _ _ _ _ ((c .before .before .before .before .before .before .before .before .before .before .loop) .inv .runs) _ _ (tried-passes _ _ _ _ _ _ ((c .before .before .before .before .before .before .before .before .before .try-at) .ensures) _ _ ((c .before .before .before .before .before .before .before .e) .given .1)) _ ((c .before .before .before .before .before .process-of) .ensures) (sym ((c .before .before .before .before .is-start) .ensures) ∙ (c .before .before .before .if1) .left)
+    can-step _ _ _ _ _ _ _ _ ((c .before .before .before .before .before .before .before .loop) .inv .0 .runs) _ _ (tried-step _ _ _ _ _ _ ((c .before .before .before .before .before .before .try-at) .ensures) _ _ ((c .before .before .before .before .p2) .given .1))
 
-take-step-requires : tie.Need-take-step-requires Inv-loop μ-loop
+keep-step-requires : tie.Need-keep-step-requires Inv-loop μ-loop
 unfolding idleRecord
-take-step-requires c κs =
-    let w = (tried-passes _ _ _ _ _ _ ((c .before .before .before .before .before .before .before .before .before .before .before .before .before .before .before .before .try-at) .ensures) _ _ ((c .before .before .before .before .before .before .before .before .before .before .before .before .before .before .e) .given .1)) in can-keep _ _ _ _ _ _ _ _ _ _ _ _ _ _ _ ((c .before .before .before .before .before .before .before .before .before .before .before .before .before .before .before .before .before .loop) .inv .runs .agrees) ((c .before .before .before .before .before .before .before .before .before .before .before .before .before .before .before .before .before .loop) .inv .ledger) _ (inside _ _ _ _ _ _ _ _ ((c .before .before .before .before .before .before .before .before .before .before .before .before .before .before .before .before .before .loop) .inv .runs) _ _ (tried-passes _ _ _ _ _ _ ((c .before .before .before .before .before .before .before .before .before .before .before .before .before .before .before .before .try-at) .ensures) _ _ ((c .before .before .before .before .before .before .before .before .before .before .before .before .before .before .e) .given .1)) _ ((c .before .before .before .before .before .before .before .before .before .before .before .before .process-of) .ensures)) (acting _ _ _ _ _ _ _ _ ((c .before .before .before .before .before .before .before .before .before .before .before .before .before .before .before .before .before .loop) .inv .runs) _ _ (tried-passes _ _ _ _ _ _ ((c .before .before .before .before .before .before .before .before .before .before .before .before .before .before .before .before .try-at) .ensures) _ _ ((c .before .before .before .before .before .before .before .before .before .before .before .before .before .before .e) .given .1)) _ ((c .before .before .before .before .before .before .before .before .before .before .before .before .process-of) .ensures) (sym ((c .before .before .before .before .before .before .before .before .before .before .before .is-start) .ensures) ∙ (c .before .before .before .before .before .before .before .before .before .before .if1) .left)) (omega (arith, w .further, w .within, (c .before .before .before .before .before .before .before .before .before .before .before .before .before .before .before .before .before .before .before .before .before .pre) .2))
+keep-step-requires c κs =
+    λ a. let w = (tried-step _ _ _ _ _ _ ((c .before .before .before .before .before .before .before .before .before .before .before .before .before .try-at) .ensures) _ _ ((c .before .before .before .before .before .before .before .before .before .before .before .p2) .given .1)) .stands in can-keep _ _ _ _ _ _ _ _ _ _ _ _ _ _ _ _ ((c .before .before .before .before .before .before .before .before .before .before .before .before .before .before .loop) .inv .0 .runs .agrees) ((c .before .before .before .before .before .before .before .before .before .before .before .before .before .before .loop) .inv .0 .ledger a) _ (inside _ _ _ _ _ _ _ _ ((c .before .before .before .before .before .before .before .before .before .before .before .before .before .before .loop) .inv .0 .runs) _ _ _ (tried-step _ _ _ _ _ _ ((c .before .before .before .before .before .before .before .before .before .before .before .before .before .try-at) .ensures) _ _ ((c .before .before .before .before .before .before .before .before .before .before .before .p2) .given .1))) (acting _ _ _ _ _ _ _ _ ((c .before .before .before .before .before .before .before .before .before .before .before .before .before .before .loop) .inv .0 .runs) _ _ _ (tried-step _ _ _ _ _ _ ((c .before .before .before .before .before .before .before .before .before .before .before .before .before .try-at) .ensures) _ _ ((c .before .before .before .before .before .before .before .before .before .before .before .p2) .given .1)) refl) (omega (arith, w .further, w .within)) ((c .before .before .before .before .before .before .before .before .before .before .before .before .before .before .before .before .before .before .before .before .before .pre) .3) (room-still _ _ ((c .before .before .before .before .before .before .before .before .before .before .before .before .before .before .loop) .inv .1) ((c .before .before .before .before .before .before .before .before .before .before .before .before .before .before .before .before .before .before .before .before .before .pre) .4 a))
 
 mul-procs-2 : tie.Need-mul-procs-2 Inv-loop μ-loop
 mul-procs-2 c =
-    omega (arith, low _ _ _ _ _ _ _ _ ((c .before .before .before .before .before .before .before .before .before .before .before .before .before .before .before .before .before .before .loop) .inv .runs) _ _ (tried-passes _ _ _ _ _ _ ((c .before .before .before .before .before .before .before .before .before .before .before .before .before .before .before .before .before .try-at) .ensures) _ _ ((c .before .before .before .before .before .before .before .before .before .before .before .before .before .before .before .e) .given .1)) _ ((c .before .before .before .before .before .before .before .before .before .before .before .before .before .process-of) .ensures))
+    omega (arith, low _ _ _ _ _ _ _ _ ((c .before .before .before .before .before .before .before .before .before .before .before .before .before .before .before .before .before .before .before .before .before .before .loop) .inv .0 .runs) _ _ _ (tried-step _ _ _ _ _ _ ((c .before .before .before .before .before .before .before .before .before .before .before .before .before .before .before .before .before .before .before .before .before .try-at) .ensures) _ _ ((c .before .before .before .before .before .before .before .before .before .before .before .before .before .before .before .before .before .before .before .p2) .given .1)))
 
 array-set-from-procs-2 : tie.Need-array-set-from-procs-2 Inv-loop μ-loop
 array-set-from-procs-2 c =
-    low _ _ _ _ _ _ _ _ ((c .before .before .before .before .before .before .before .before .before .before .before .before .before .before .before .before .before .before .loop) .inv .runs) _ _ (tried-passes _ _ _ _ _ _ ((c .before .before .before .before .before .before .before .before .before .before .before .before .before .before .before .before .before .try-at) .ensures) _ _ ((c .before .before .before .before .before .before .before .before .before .before .before .before .before .before .before .e) .given .1)) _ ((c .before .before .before .before .before .before .before .before .before .before .before .before .before .process-of) .ensures)
+    low _ _ _ _ _ _ _ _ ((c .before .before .before .before .before .before .before .before .before .before .before .before .before .before .before .before .before .before .before .before .before .before .loop) .inv .0 .runs) _ _ _ (tried-step _ _ _ _ _ _ ((c .before .before .before .before .before .before .before .before .before .before .before .before .before .before .before .before .before .before .before .before .before .try-at) .ensures) _ _ ((c .before .before .before .before .before .before .before .before .before .before .before .before .before .before .before .before .before .before .before .p2) .given .1))
 
 busy-after-requires : tie.Need-busy-after-requires Inv-loop μ-loop
 busy-after-requires c κs = search needs
 
-loop-less : tie.Need-loop-less Inv-loop μ-loop
-loop-less c =
-    let w = (tried-passes _ _ _ _ _ _ ((c .before .before .before .before .before .before .before .before .before .before .before .try-at) .ensures) _ _ ((c .before .before .before .before .before .before .before .before .before .e) .given .1)) in omega (arith, w .further, w .within)
-
-loop-again : tie.Need-loop-again Inv-loop μ-loop
-loop-again c =
-    runs-kept-start _ _ _ _ _ _ _ _ ((c .before .before .before .before .before .before .before .before .before .before .before .before .loop) .inv .runs) _ _ (tried-passes _ _ _ _ _ _ ((c .before .before .before .before .before .before .before .before .before .before .before .try-at) .ensures) _ _ ((c .before .before .before .before .before .before .before .before .before .e) .given .1)) _ ((c .before .before .before .before .before .before .before .process-of) .ensures) (sym ((c .before .before .before .before .before .before .is-start) .ensures) ∙ (c .before .before .before .before .before .if1) .taken) _ _ (ap (set ((c .before .before .before .before .before .before .before .before .before .before .before .before .loop) .procs) ((c .before .before .before .before .before .before .before .process-of) .result)) ((c .before .before .before .before .started) .ensures)) ((c .before .before .before .put) .ensures) _ _ _ ((c .before .before .before .before .before .before .before .before .before .before .before .before .loop) .inv .ledger) refl (kept-started _ _ _ _ _ _ _ _ _ _ _ _ _ ((c .before .adds) .ensures) ((c .start-row) .ensures))
-
 loop-less-2 : tie.Need-loop-less-2 Inv-loop μ-loop
 loop-less-2 c =
-    let w = (tried-passes _ _ _ _ _ _ ((c .before .before .before .before .before .before .before .before .before .before .before .before .before .before .before .before .before .before .try-at) .ensures) _ _ ((c .before .before .before .before .before .before .before .before .before .before .before .before .before .before .before .before .e) .given .1)) in omega (arith, w .further, w .within)
+    let w = (tried-step _ _ _ _ _ _ ((c .before .before .before .before .before .before .before .before .before .before .before .before .before .before .before .before .before .before .before .before .before .before .try-at) .ensures) _ _ ((c .before .before .before .before .before .before .before .before .before .before .before .before .before .before .before .before .before .before .before .before .p2) .given .1)) .stands in omega (arith, w .further, w .within)
 
 loop-again-2 : tie.Need-loop-again-2 Inv-loop μ-loop
 unfolding idleRecord
-loop-again-2 c =
-    runs-kept-step _ _ _ _ _ _ _ _ ((c .before .before .before .before .before .before .before .before .before .before .before .before .before .before .before .before .before .before .before .loop) .inv .runs) _ _ (tried-passes _ _ _ _ _ _ ((c .before .before .before .before .before .before .before .before .before .before .before .before .before .before .before .before .before .before .try-at) .ensures) _ _ ((c .before .before .before .before .before .before .before .before .before .before .before .before .before .before .before .before .e) .given .1)) _ ((c .before .before .before .before .before .before .before .before .before .before .before .before .before .before .process-of) .ensures) (sym ((c .before .before .before .before .before .before .before .before .before .before .before .before .before .is-start) .ensures) ∙ (c .before .before .before .before .before .before .before .before .before .before .before .before .if1) .left) _ _ _ ((c .before .before .before .before .before .before .before .before .next) .ensures) _ _ refl ((c .busy-after) .ensures) _ _ ((c .before .before .before .before .before .before .before .before .before .before .before .before .before .before .before .before .before .before .before .loop) .inv .ledger) ((c .before .take-step) .ensures)
+loop-again-2 c = (
+  runs-kept-step _ _ _ _ _ _ _ _ ((c .before .before .before .before .before .before .before .before .before .before .before .before .before .before .before .before .before .before .before .before .before .before .before .loop) .inv .0 .runs) _ _ (tried-step _ _ _ _ _ _ ((c .before .before .before .before .before .before .before .before .before .before .before .before .before .before .before .before .before .before .before .before .before .before .try-at) .ensures) _ _ ((c .before .before .before .before .before .before .before .before .before .before .before .before .before .before .before .before .before .before .before .before .p2) .given .1)) _ _ _ ((c .before .before .before .before .before .before .before .before .before .before .before .before .before .before .before .next) .ensures) _ _ refl ((c .busy-after) .ensures) _ _ _ ((c .before .before .before .before .before .before .before .before .before .before .before .before .before .before .before .before .before .before .before .before .before .before .before .loop) .inv .0 .ledger) ((c .before .before .before .before .before .before .before .before .keep-step) .ensures),
+  let w = (c .before .before .before .before .before .before .before .before .before .before .before .before .before .before .before .before .before .before .before .before .before .before .before .loop) .inv .1 in let k = (c .before .before .before .before .before .before .before .before .keep-step) .kept in record { ofRead = omega (arith, k, w .ofRead); ofQueue = omega (arith, k, w .ofQueue); ofTurns = omega (arith, k, w .ofTurns); ofRows = omega (arith, k, w .ofRows) },
+)
 
 pub run-spec : {M : Type 1} → statement M
 run-spec =
@@ -145,29 +184,36 @@ run-spec =
     loop-holds
     try-at-requires
     enum-told
-    array-read-t28
+    array-read-t32
+    same-length
+    same-length-2
+    same-length-3
+    same-length-4
     returns
     enum-known-number
     refused-requires
+    same-length-5
+    same-length-6
+    same-length-7
+    same-length-8
     returns-2
-    enum-known-e
-    process-of-requires
-    is-start-requires
+    enum-known-p
+    cast-started
     started-requires
     mul-procs
     array-set-from-procs
     put-requires
-    adds-requires
     start-row-requires
     add-m
+    loop-less
+    loop-again
+    enum-known-p-2
     mul-r
     array-copy-out-r
     next-requires
-    take-step-requires
+    keep-step-requires
     mul-procs-2
     array-set-from-procs-2
     busy-after-requires
-    loop-less
-    loop-again
     loop-less-2
     loop-again-2)

@@ -1,12 +1,13 @@
--- `start_row` meets its contract: the kind by the branch, and the count of ones as the count of the set.
-use native.Mathlib.Omega.{arith}
-use borrow.Author.Needs.{needs}
+-- `start_row` meets its contract: the kind by the branch, and the count of ones as the count of the set; or nothing to show.
 use mathlib.Core.Logic.{⊎-elim}
-use mathlib.Core.Path.{_∙_}
+use mathlib.Core.Path.{sym, _∙_}
 use mathlib.Core.Bool.{true, false}
 use Rattle.sets.specs.Processes.{isIn}
 use Rattle.sets.proofs.Laws.{count-le}
+use Rattle.ledger.proofs.Good.{false-true}
 use Rattle.engine.proofs.Fresh.{kind-of, fresh-row}
+use native.Mathlib.Omega.{arith}
+use borrow.Author.Needs.{needs}
 use Rattle.engine.proofs.start_row.Statement.{statement}
 use Rattle.engine.proofs.start_row.Tie as tie
 
@@ -17,17 +18,33 @@ count-requires : tie.Need-count-requires
 count-requires c κs = search needs
 
 cast-start-row-2 : tie.Need-cast-start-row-2
-cast-start-row-2 c = omega (arith, c .count .ensures, count-le 64 (isIn (c .before .before .before .args .busy)))
+cast-start-row-2 c = omega (arith, c .count .ensures, count-le 64 (isIn (c .before .before .before .before .before .args .busy)))
 
 start-row-requires : tie.Need-start-row-requires
-start-row-requires c κs = search needs
+start-row-requires c κs =
+    ((c .before .before .before .before .before .pre) .0, (c .before .before .before .before .before .pre) .2 ((c .before .before .before .if1) .taken))
+
+same-length : tie.Need-same-length
+same-length c = search needs
 
 returns : tie.Need-returns
 returns c =
-    ⊎-elim (λ w. fresh-row _ _ _ _ _ _ _ _ (c .start-row .ensures) (w .1 ∙ kind-of _ true (w .0 .taken)) (c .before .count .ensures))
-    (λ w. fresh-row _ _ _ _ _ _ _ _ (c .start-row .ensures) (w .1 ∙ kind-of _ false (w .0 .left)) (c .before .count .ensures))
-    (c .before .before .before .if1 .came)
+    λ a.
+    ⊎-elim (λ w. fresh-row _ _ _ _ _ _ _ _ ((c .before .before .start-row) .ensures) (w .1 ∙ kind-of _ true (w .0 .taken)) ((c .before .before .before .count) .ensures))
+    (λ w. fresh-row _ _ _ _ _ _ _ _ ((c .before .before .start-row) .ensures) (w .1 ∙ kind-of _ false (w .0 .left)) ((c .before .before .before .count) .ensures)) ((c .before .before .before .before .before .if2) .came)
+
+returns-2 : tie.Need-returns-2
+returns-2 c =
+    λ a. absurd (false-true (sym ((c .if1) .left) ∙ a))
 
 pub start-row-spec : {M : Type 1} → statement M
 start-row-spec =
-    tie.close (tie.spec cast-start-row count-requires cast-start-row-2 start-row-requires returns)
+    tie.close
+    (tie.spec
+    cast-start-row
+    count-requires
+    cast-start-row-2
+    start-row-requires
+    same-length
+    returns
+    returns-2)

@@ -1,5 +1,5 @@
 -- `try_at` meets its contract: each way out is one of what a record comes to.
-use Rattle.engine.proofs.Tries.{tries-end, tries-broken, tries-refused, tries-passes}
+use Rattle.engine.proofs.Tries.{tries-end, tries-broken, tries-refused, tries-step, tries-start}
 use borrow.Author.Needs.{needs}
 use Rattle.engine.proofs.try_at.Statement.{statement}
 use Rattle.engine.proofs.try_at.Tie as tie
@@ -26,16 +26,33 @@ refusal-requires : tie.Need-refusal-requires
 refusal-requires c κs = search needs
 
 returns : tie.Need-returns
-returns c = tries-end _ _ _ _ _ _ (c .before .before .cut-at .ensures) (c .enum-told .given .1)
+returns c =
+    tries-refused _ _ _ _ _ _ _ _ _ _ _ ((c .before .before .before .before .before .before .before .cut-at) .ensures) ((c .before .before .before .before .before .e) .given .1) ((c .before .before .before .process-of) .ensures) ((c .before .before .has) .ensures) ((c .before .refusal) .ensures) ((c .if1) .taken)
+
+is-start-requires : tie.Need-is-start-requires
+is-start-requires c κs = search needs
+
+adds-requires : tie.Need-adds-requires
+adds-requires c κs = search needs
+
+delta-of-requires : tie.Need-delta-of-requires
+delta-of-requires c κs = search needs
 
 returns-2 : tie.Need-returns-2
-returns-2 c = tries-broken _ _ _ _ _ _ _ (c .before .before .before .cut-at .ensures) (c .before .place .given .1)
+returns-2 c =
+    tries-end _ _ _ _ _ _ ((c .before .before .cut-at) .ensures) ((c .enum-told) .given .1)
 
 returns-3 : tie.Need-returns-3
-returns-3 c = tries-refused _ _ _ _ _ _ _ _ _ _ _ (c .before .before .before .before .before .before .before .cut-at .ensures) (c .before .before .before .before .before .e .given .1) (c .before .before .before .process-of .ensures) (c .before .before .has .ensures) (c .before .refusal .ensures) (c .if1 .taken)
+returns-3 c =
+    tries-broken _ _ _ _ _ _ _ ((c .before .before .before .cut-at) .ensures) ((c .before .place) .given .1)
 
 returns-4 : tie.Need-returns-4
-returns-4 c = tries-passes _ _ _ _ _ _ _ _ _ _ _ (c .before .before .before .before .before .before .before .cut-at .ensures) (c .before .before .before .before .before .e .given .1) (c .before .before .before .process-of .ensures) (c .before .before .has .ensures) (c .before .refusal .ensures) (c .if1 .left)
+returns-4 c =
+    tries-start _ _ _ _ _ _ _ _ _ _ _ ((c .before .before .before .before .before .before .before .before .before .before .before .cut-at) .ensures) ((c .before .before .before .before .before .before .before .before .before .e) .given .1) ((c .before .before .before .before .before .before .before .process-of) .ensures) ((c .before .before .before .before .before .before .has) .ensures) ((c .before .before .before .before .before .refusal) .ensures) ((c .before .before .before .before .if1) .left) _ ((c .before .before .before .is-start) .ensures) _ _ ((c .before .before .if2) .taken) ((c .before .adds) .ensures) ((c .delta-of) .ensures)
+
+returns-5 : tie.Need-returns-5
+returns-5 c =
+    tries-step _ _ _ _ _ _ _ _ _ _ _ ((c .before .before .before .before .before .before .before .before .before .cut-at) .ensures) ((c .before .before .before .before .before .before .before .e) .given .1) ((c .before .before .before .before .before .process-of) .ensures) ((c .before .before .before .before .has) .ensures) ((c .before .before .before .refusal) .ensures) ((c .before .before .if1) .left) _ ((c .before .is-start) .ensures) ((c .if2) .left)
 
 pub try-at-spec : {M : Type 1} → statement M
 try-at-spec =
@@ -49,6 +66,10 @@ try-at-spec =
     has-requires
     refusal-requires
     returns
+    is-start-requires
+    adds-requires
+    delta-of-requires
     returns-2
     returns-3
-    returns-4)
+    returns-4
+    returns-5)

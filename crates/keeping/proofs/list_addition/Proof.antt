@@ -1,8 +1,8 @@
 -- `list_addition`: a leaf write joins the queue, a store at node 1 lists, and every other step leaves it.
-use native.Mathlib.Omega.{arith}
 use Rattle.arrays.specs.Arrays.{asFun}
 use Rattle.keeping.proofs.Laws.{at-root, below-root, not-stored}
 use Rattle.keeping.proofs.Steps.{joins, leaves, clears, lists-by}
+use native.Mathlib.Omega.{arith}
 use borrow.Author.Needs.{needs}
 use Rattle.keeping.proofs.list_addition.Statement.{statement}
 use Rattle.keeping.proofs.list_addition.Tie as tie
@@ -15,22 +15,31 @@ element-copy-out-wait c = search needs
 
 wait-requires : tie.Need-wait-requires
 wait-requires c κs =
-    let can = c .before .before .before .before .pre in
-    (can .waiting (c .before .before .before .if1 .taken), can .row .row, can .process)
+    let can = (c .before .before .before .before .before .before .before .pre) in
+    let room = can .waiting ((c .before .before .before .if1) .taken) in
+    (room, omega (arith, room, can .queue .sizes .turnsFit), can .row .row, can .process)
 
 take-in-requires : tie.Need-take-in-requires
 take-in-requires c κs = search needs
 
-add-t19 : tie.Need-add-t19
-add-t19 c = search needs
+add-t21 : tie.Need-add-t21
+add-t21 c = search needs
+
+same-length : tie.Need-same-length
+same-length c = search needs
+
+same-length-2 : tie.Need-same-length-2
+same-length-2 c = search needs
+
+same-length-3 : tie.Need-same-length-3
+same-length-3 c = search needs
 
 returns : tie.Need-returns
 unfolding asFun
 returns c =
-    let can = c .before .before .before .before .before .before .before .before .before .before .pre in
-    let wait = c .before .before .before .before .before .wait .ensures in
-    joins _ _ _ _ _ _ _ _ _ _ _ _ _ _ (c .before .take-in .ensures) _ _
-    (c .before .before .before .before .before .before .before .before .before .if1 .taken) (can .low) (can .process) (wait .0) (wait .1)
+    let can = (c .before .before .before .before .before .before .before .before .before .before .before .before .before .before .before .before .before .before .pre) in
+    let wait = (c .before .before .before .before .before .before .before .before .before .before .wait) .ensures in
+    joins _ _ _ _ _ _ _ _ _ _ _ _ _ _ ((c .before .before .take-in) .ensures) _ _ ((c .before .before .before .before .before .before .before .before .before .before .before .before .before .before .if1) .taken) (can .low) (can .process) (wait .0) (wait .1)
 
 take-in-requires-2 : tie.Need-take-in-requires-2
 take-in-requires-2 c κs = search needs
@@ -53,24 +62,36 @@ row-of-requires c κs = search needs
 list-in-requires : tie.Need-list-in-requires
 list-in-requires c κs = search needs
 
+same-length-4 : tie.Need-same-length-4
+same-length-4 c = search needs
+
+same-length-5 : tie.Need-same-length-5
+same-length-5 c = search needs
+
+same-length-6 : tie.Need-same-length-6
+same-length-6 c = search needs
+
+same-length-7 : tie.Need-same-length-7
+same-length-7 c = search needs
+
 returns-2 : tie.Need-returns-2
 returns-2 c =
-    let root = c .before .before .before .before .before .before in
-    let took = c .before .before .before .before .before .before .before .before in
-    let first = took .before .before .before .before in
-    clears _ _ _ _ _ _ _ _ _ _ _ _ _ _ (took .take-in2 .ensures) _ _ _ (first .if1 .left) (first .before .pre .low)
-    (at-root _ _ (root .before .if2 .taken) (omega (arith, root .if3 .taken)))
-    (lists-by _ _ (c .before .before .before .before .row-of .ensures) (c .list-in .ensures))
+    clears _ _ _ _ _ _ _ _ _ _ _ _ _ _ ((c .before .before .before .before .before .before .before .before .before .before .before .before .before .before .before .take-in2) .ensures) _ _ _ ((c .before .before .before .before .before .before .before .before .before .before .before .before .before .before .before .before .before .before .before .if1) .left) ((c .before .before .before .before .before .before .before .before .before .before .before .before .before .before .before .before .before .before .before .before .before .before .before .pre) .low) (at-root _ _ ((c .before .before .before .before .before .before .before .before .before .before .before .before .before .if2) .taken) (omega (arith, (c .before .before .before .before .before .before .before .before .before .before .before .before .if3) .taken)))
+    (lists-by _ _ ((c .before .before .before .before .before .before .before .before .before .before .row-of) .ensures) ((c .before .before .before .before .before .before .list-in) .ensures))
+
+same-length-8 : tie.Need-same-length-8
+same-length-8 c = search needs
 
 returns-3 : tie.Need-returns-3
 returns-3 c =
-    leaves _ _ _ _ _ _ _ _ _ _ _ _ _ _ (c .before .before .take-in2 .ensures) (c .before .before .before .before .before .before .if1 .left)
-    (below-root _ _ _ (omega (arith, c .if3 .left)))
+    leaves _ _ _ _ _ _ _ _ _ _ _ _ _ _ ((c .before .before .before .take-in2) .ensures) ((c .before .before .before .before .before .before .before .if1) .left) (below-root _ _ _ (omega (arith, (c .if3) .left)))
+
+same-length-9 : tie.Need-same-length-9
+same-length-9 c = search needs
 
 returns-4 : tie.Need-returns-4
 returns-4 c =
-    leaves _ _ _ _ _ _ _ _ _ _ _ _ _ _ (c .before .take-in2 .ensures) (c .before .before .before .before .before .if1 .left)
-    (not-stored _ _ (c .if2 .left))
+    leaves _ _ _ _ _ _ _ _ _ _ _ _ _ _ ((c .before .before .take-in2) .ensures) ((c .before .before .before .before .before .before .if1) .left) (not-stored _ _ ((c .if2) .left))
 
 pub list-addition-spec : {M : Type 1} → statement M
 list-addition-spec =
@@ -80,7 +101,10 @@ list-addition-spec =
     element-copy-out-wait
     wait-requires
     take-in-requires
-    add-t19
+    add-t21
+    same-length
+    same-length-2
+    same-length-3
     returns
     take-in-requires-2
     mul-if3
@@ -89,6 +113,12 @@ list-addition-spec =
     cast-level
     row-of-requires
     list-in-requires
+    same-length-4
+    same-length-5
+    same-length-6
+    same-length-7
     returns-2
+    same-length-8
     returns-3
+    same-length-9
     returns-4)

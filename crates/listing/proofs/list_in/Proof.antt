@@ -1,108 +1,125 @@
 -- `list_in` meets its contract: the invariant is that the first j entries are listed, and each branch lists one more.
 use Prim.Native.Nat.{_-_}
 use mathlib.Core.Logic.{⊎-elim}
-use native.Mathlib.Omega.{arith}
-use borrow.Author.Needs.{needs}
 use Rattle.arrays.specs.Arrays.{asFun}
-use Rattle.listing.proofs.Loop.{Walk, Room, starts, room, lists-it, keeps-it, all-listed}
+use Rattle.listing.proofs.Loop.{Walk, starts, room, lists-it, keeps-it, all-listed}
+use borrow.Author.Needs.{needs}
+use native.Mathlib.Omega.{arith}
 use Rattle.listing.proofs.list_in.Statement.{statement}
 use Rattle.listing.proofs.list_in.Tie as tie
 
 abbrev Inv-loop : tie.InvT-loop
-Inv-loop queue₀ turns₀ rows₀ count waiting rank₀ kept₀ j₀ queue turns rows rank kept j =
-    Walk (asFun queue₀) (asFun turns₀) (asFun rows₀) (asFun count) waiting rank₀ queue turns rows rank kept j
+Inv-loop queue₀ turns₀ rows₀ count waiting rank₀ kept₀ j₀ queue turns rows rank kept j = Walk queue₀ turns₀ rows₀ (asFun count) waiting rank₀ queue turns rows rank kept j
 
 abbrev μ-loop : tie.MeasureT-loop
 μ-loop queue₀ turns₀ rows₀ count waiting rank₀ kept₀ j₀ queue turns rows rank kept j = waiting - j
 
-of-1024-requires : tie.Need-of-1024-requires Inv-loop μ-loop
-of-1024-requires c κs = search needs
-
-of-1024-requires-2 : tie.Need-of-1024-requires-2 Inv-loop μ-loop
-of-1024-requires-2 c κs = search needs
-
-of-5120-requires : tie.Need-of-5120-requires Inv-loop μ-loop
-of-5120-requires c κs = search needs
-
 loop-holds : tie.Need-loop-holds Inv-loop μ-loop
 loop-holds c =
-    starts (c .before .before .before .before .before .before .pre) (c .before .before .before .before .of-1024 .ensures)
-    (c .before .before .of-10242 .ensures) (c .of-5120 .ensures)
-
--- what is known in every turn
-turn : (c : tie.In-loop Inv-loop μ-loop) → Room (c .before .loop .queue) (c .before .loop .rank) (c .before .loop .kept) (c .before .loop .j)
-turn c = room (c .before .loop .inv) (c .loop-test .taken)
+    starts (c .pre)
 
 mul-w : tie.Need-mul-w Inv-loop μ-loop
-mul-w c = omega (arith, turn c)
+mul-w c = search needs
 
-element-copy-out-w : tie.Need-element-copy-out-w Inv-loop μ-loop
-element-copy-out-w c = omega (arith, turn c)
+slice-read-w : tie.Need-slice-read-w Inv-loop μ-loop
+slice-read-w c =
+    omega (arith, room ((c .before .before .loop) .inv) ((c .before .loop-test) .taken))
 
 mul-t : tie.Need-mul-t Inv-loop μ-loop
-mul-t c = omega (arith, turn (c .before))
+mul-t c =
+    omega (arith, room ((c .before .before .loop) .inv) ((c .before .loop-test) .taken))
 
-element-copy-out-t : tie.Need-element-copy-out-t Inv-loop μ-loop
-element-copy-out-t c = omega (arith, turn (c .before))
+slice-read-t : tie.Need-slice-read-t Inv-loop μ-loop
+slice-read-t c =
+    omega (arith, room ((c .before .before .before .loop) .inv) ((c .before .before .loop-test) .taken))
 
 cast-p : tie.Need-cast-p Inv-loop μ-loop
-cast-p c = omega arith
+cast-p c =
+    omega arith
 
 mul-if1 : tie.Need-mul-if1 Inv-loop μ-loop
-mul-if1 c = omega arith
+mul-if1 c =
+    omega arith
 
 array-read-if1 : tie.Need-array-read-if1 Inv-loop μ-loop
-array-read-if1 c = omega arith
+array-read-if1 c =
+    omega arith
 
 cast-i : tie.Need-cast-i Inv-loop μ-loop
-cast-i c = omega (arith, turn (c .before .before .before))
+cast-i c =
+    omega (arith, room ((c .before .before .before .before .loop) .inv) ((c .before .before .before .loop-test) .taken))
 
 add-rank : tie.Need-add-rank Inv-loop μ-loop
-add-rank c = omega (arith, turn (c .before .before .before))
+add-rank c =
+    omega (arith, room ((c .before .before .before .before .loop) .inv) ((c .before .before .before .loop-test) .taken))
 
 mul-rows : tie.Need-mul-rows Inv-loop μ-loop
-mul-rows c = omega (arith, turn (c .before .before .before))
+mul-rows c =
+    omega (arith, room ((c .before .before .before .before .loop) .inv) ((c .before .before .before .loop-test) .taken))
 
 add-rows : tie.Need-add-rows Inv-loop μ-loop
-add-rows c = omega (arith, turn (c .before .before .before))
+add-rows c =
+    omega (arith, room ((c .before .before .before .before .loop) .inv) ((c .before .before .before .loop-test) .taken))
 
 mul-rows-2 : tie.Need-mul-rows-2 Inv-loop μ-loop
-mul-rows-2 c = omega (arith, turn (c .before .before .before))
+mul-rows-2 c =
+    omega (arith, room ((c .before .before .before .before .loop) .inv) ((c .before .before .before .loop-test) .taken))
 
-element-write-rows : tie.Need-element-write-rows Inv-loop μ-loop
-element-write-rows c = omega (arith, turn (c .before .before .before))
+slice-write-rows : tie.Need-slice-write-rows Inv-loop μ-loop
+slice-write-rows c =
+    omega (arith, room ((c .before .before .before .before .loop) .inv) ((c .before .before .before .loop-test) .taken))
 
 mul-queue : tie.Need-mul-queue Inv-loop μ-loop
-mul-queue c = omega (arith, turn (c .before .before .before))
+mul-queue c =
+    omega (arith, room ((c .before .before .before .before .loop) .inv) ((c .before .before .before .loop-test) .taken))
 
-element-write-queue : tie.Need-element-write-queue Inv-loop μ-loop
-element-write-queue c = omega (arith, turn (c .before .before .before))
+slice-write-queue : tie.Need-slice-write-queue Inv-loop μ-loop
+slice-write-queue c =
+    omega (arith, room ((c .before .before .before .before .loop) .inv) ((c .before .before .before .loop-test) .taken))
 
 mul-turns : tie.Need-mul-turns Inv-loop μ-loop
-mul-turns c = omega (arith, turn (c .before .before .before))
+mul-turns c =
+    omega (arith, room ((c .before .before .before .before .loop) .inv) ((c .before .before .before .loop-test) .taken))
 
-element-write-turns : tie.Need-element-write-turns Inv-loop μ-loop
-element-write-turns c = omega (arith, turn (c .before .before .before))
+slice-write-turns : tie.Need-slice-write-turns Inv-loop μ-loop
+slice-write-turns c =
+    omega (arith, room ((c .before .before .before .before .loop) .inv) ((c .before .before .before .loop-test) .taken))
 
 add-kept : tie.Need-add-kept Inv-loop μ-loop
-add-kept c = omega (arith, turn (c .before .before .before))
+add-kept c =
+    omega (arith, room ((c .before .before .before .before .loop) .inv) ((c .before .before .before .loop-test) .taken))
 
 add-j : tie.Need-add-j Inv-loop μ-loop
-add-j c = omega (arith, turn (c .before .before .before))
+add-j c =
+    omega (arith, room ((c .before .before .before .before .loop) .inv) ((c .before .before .before .loop-test) .taken))
 
 loop-less : tie.Need-loop-less Inv-loop μ-loop
-loop-less c = omega arith
+loop-less c =
+    omega arith
 
 loop-again : tie.Need-loop-again Inv-loop μ-loop
 unfolding asFun
 loop-again c =
-    let inv = c .before .before .before .before .loop .inv in
-    let taken = c .before .before .before .loop-test .taken in
+    let inv = (c .before .before .before .before .loop) .inv in
+    let taken = (c .before .before .before .loop-test) .taken in
     ⊎-elim (λ w. rw (w .1, w .2, w .3, w .4, w .5) (lists-it inv taken (w .0 .taken)))
-    (λ w. rw (w .1, w .2, w .3, w .4, w .5) (keeps-it inv taken (w .0 .left))) (c .if1 .came)
+    (λ w. rw (w .1, w .2, w .3, w .4, w .5) (keeps-it inv taken (w .0 .left))) ((c .if1) .came)
+
+same-length : tie.Need-same-length Inv-loop μ-loop
+same-length c =
+    (c .before .loop) .inv .lengths .0
+
+same-length-2 : tie.Need-same-length-2 Inv-loop μ-loop
+same-length-2 c =
+    (c .before .loop) .inv .lengths .1
+
+same-length-3 : tie.Need-same-length-3 Inv-loop μ-loop
+same-length-3 c =
+    (c .before .loop) .inv .lengths .2
 
 returns : tie.Need-returns Inv-loop μ-loop
-returns c = all-listed (c .before .loop .inv) (c .loop-test .left)
+returns c =
+    all-listed ((c .before .loop) .inv) ((c .loop-test) .left)
 
 pub list-in-spec : {M : Type 1} → statement M
 list-in-spec =
@@ -110,14 +127,11 @@ list-in-spec =
     (tie.spec
     Inv-loop
     μ-loop
-    of-1024-requires
-    of-1024-requires-2
-    of-5120-requires
     loop-holds
     mul-w
-    element-copy-out-w
+    slice-read-w
     mul-t
-    element-copy-out-t
+    slice-read-t
     cast-p
     mul-if1
     array-read-if1
@@ -126,13 +140,16 @@ list-in-spec =
     mul-rows
     add-rows
     mul-rows-2
-    element-write-rows
+    slice-write-rows
     mul-queue
-    element-write-queue
+    slice-write-queue
     mul-turns
-    element-write-turns
+    slice-write-turns
     add-kept
     add-j
     loop-less
     loop-again
+    same-length
+    same-length-2
+    same-length-3
     returns)

@@ -1,9 +1,9 @@
 -- `lay_report`: the version byte, two numbers and the rows, each laid right after what is laid already.
 use mathlib.Core.Path.{_∙_}
-use native.Mathlib.Omega.{arith}
 use lib.ListN.{length-set}
-use borrow.Author.Needs.{needs}
 use Rattle.rows.proofs.Stores.{report-laid}
+use native.Mathlib.Omega.{arith}
+use borrow.Author.Needs.{needs}
 use Rattle.rows.proofs.lay_report.Statement.{statement}
 use Rattle.rows.proofs.lay_report.Tie as tie
 
@@ -20,34 +20,29 @@ cast-lay-number : tie.Need-cast-lay-number
 cast-lay-number c = search needs
 
 lay-number-requires : tie.Need-lay-number-requires
-lay-number-requires c κs = simp length-set (omega arith)
+lay-number-requires c κs =
+    simp length-set (omega arith)
 
 lay-number-requires-2 : tie.Need-lay-number-requires-2
-lay-number-requires-2 c κs = omega (arith, simp length-set at (c .before .before .before .lay-number .kept .0))
+lay-number-requires-2 c κs =
+    omega (arith, simp length-set at ((c .before .before .before .lay-number) .kept .0))
 
 mul-lay-numbers : tie.Need-mul-lay-numbers
 mul-lay-numbers c = search needs
 
 lay-numbers-requires : tie.Need-lay-numbers-requires
 lay-numbers-requires c κs =
-    let second = c .before .before .before in
-    let first = second .before .before .before .before in
-    omega (arith, second .lay-number2 .kept .0, simp length-set at (first .lay-number .kept .0))
+    let first = simp length-set at ((c .before .before .before .before .before .before .before .lay-number) .kept .0) in
+    let second = (c .before .before .before .lay-number2) .kept .0 in
+    (omega arith, omega arith, omega arith)
 
 same-length : tie.Need-same-length
 same-length c =
-    let third = c .before .before in
-    let second = third .before .before .before .before in
-    let first = second .before .before .before .before in
-    third .lay-numbers .kept .0 ∙ second .lay-number2 .kept .0 ∙ first .lay-number .kept .0 ∙ simp length-set
+    (c .before .before .lay-numbers) .kept .0 ∙ (c .before .before .before .before .before .before .lay-number2) .kept .0 ∙ (c .before .before .before .before .before .before .before .before .before .before .lay-number) .kept .0 ∙ simp length-set
 
 returns : tie.Need-returns
 returns c =
-    let third = c .before .before in
-    let second = third .before .before .before .before in
-    let first = second .before .before .before .before in
-    third .lay-numbers .ensures
-    ∙ rw (second .lay-number2 .ensures, first .lay-number .ensures) (report-laid _ _ _ _ (omega (arith, first .before .before .before .pre)))
+    (c .before .before .lay-numbers) .ensures ∙ rw ((c .before .before .before .before .before .before .lay-number2) .ensures, (c .before .before .before .before .before .before .before .before .before .before .lay-number) .ensures) (report-laid _ _ _ _ (omega (arith, (c .before .before .before .before .before .before .before .before .before .before .before .before .before .before .pre))))
 
 pub lay-report-spec : {M : Type 1} → statement M
 lay-report-spec =

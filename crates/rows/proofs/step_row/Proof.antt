@@ -1,8 +1,8 @@
 -- `step_row`: the row laid anew, each number from the old one; the room that the caller shows is that of each sum.
-use native.Mathlib.Omega.{arith}
-use borrow.Author.Needs.{needs}
 use Rattle.arrays.specs.Arrays.{asFun}
 use Rattle.rows.specs.Rows.{steppedNumbers}
+use native.Mathlib.Omega.{arith}
+use borrow.Author.Needs.{needs}
 use Rattle.rows.proofs.step_row.Statement.{statement}
 use Rattle.rows.proofs.step_row.Tie as tie
 
@@ -12,8 +12,8 @@ mul-at c = search needs
 mul-head : tie.Need-mul-head
 mul-head c = search needs
 
-element-copy-out-head : tie.Need-element-copy-out-head
-element-copy-out-head c = search needs
+slice-read-head : tie.Need-slice-read-head
+slice-read-head c = search needs
 
 counted-requires : tie.Need-counted-requires
 counted-requires c κs = search needs
@@ -31,12 +31,13 @@ add-steps c = search needs
 mul-steps : tie.Need-mul-steps
 mul-steps c = search needs
 
-element-copy-out-steps : tie.Need-element-copy-out-steps
-element-copy-out-steps c = search needs
+slice-read-steps : tie.Need-slice-read-steps
+slice-read-steps c = search needs
 
 add-steps-2 : tie.Need-add-steps-2
 unfolding asFun
-add-steps-2 c = omega arith
+add-steps-2 c =
+    omega arith
 
 add-rank : tie.Need-add-rank
 add-rank c = search needs
@@ -44,8 +45,8 @@ add-rank c = search needs
 mul-rank : tie.Need-mul-rank
 mul-rank c = search needs
 
-element-copy-out-rank : tie.Need-element-copy-out-rank
-element-copy-out-rank c = search needs
+slice-read-rank : tie.Need-slice-read-rank
+slice-read-rank c = search needs
 
 add-seconds : tie.Need-add-seconds
 add-seconds c = search needs
@@ -53,22 +54,27 @@ add-seconds c = search needs
 mul-seconds : tie.Need-mul-seconds
 mul-seconds c = search needs
 
-element-copy-out-seconds : tie.Need-element-copy-out-seconds
-element-copy-out-seconds c = search needs
+slice-read-seconds : tie.Need-slice-read-seconds
+slice-read-seconds c = search needs
 
 counted-requires-2 : tie.Need-counted-requires-2
 counted-requires-2 c κs = search needs
 
 add-seconds-2 : tie.Need-add-seconds-2
 unfolding asFun
-add-seconds-2 c = omega arith
+add-seconds-2 c =
+    omega arith
 
 lay-row-requires : tie.Need-lay-row-requires
 lay-row-requires c κs = search needs
 
+same-length : tie.Need-same-length
+same-length c = search needs
+
 returns : tie.Need-returns
 unfolding asFun steppedNumbers
-returns c = rw (c .before .before .before .before .before .before .counted .ensures .0, c .before .before .counted2 .ensures .0) at (c .lay-row .ensures)
+returns c =
+    rw ((c .before .before .before .before .before .before .before .before .counted) .ensures .0, (c .before .before .before .before .counted2) .ensures .0) at ((c .before .before .lay-row) .ensures)
 
 pub step-row-spec : {M : Type 1} → statement M
 step-row-spec =
@@ -76,21 +82,22 @@ step-row-spec =
     (tie.spec
     mul-at
     mul-head
-    element-copy-out-head
+    slice-read-head
     counted-requires
     mul-head-2
     add-head
     add-steps
     mul-steps
-    element-copy-out-steps
+    slice-read-steps
     add-steps-2
     add-rank
     mul-rank
-    element-copy-out-rank
+    slice-read-rank
     add-seconds
     mul-seconds
-    element-copy-out-seconds
+    slice-read-seconds
     counted-requires-2
     add-seconds-2
     lay-row-requires
+    same-length
     returns)
