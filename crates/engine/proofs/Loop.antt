@@ -23,7 +23,7 @@ use Rattle.ledger.proofs.Keeps.{keeps-initial}
 use Rattle.ledger.proofs.Total.{total-initial}
 use Rattle.keeping.specs.Keeping.{keptOf}
 use Rattle.engine.proofs.Agrees.{Agrees, procsOf}
-use Rattle.engine.proofs.Runs.{Runs, RunsKept, runs-begin, runs-kept-begin}
+use Rattle.engine.proofs.Runs.{RunsKept, runs-kept-begin}
 
 -- ---- the beginning
 
@@ -65,9 +65,6 @@ module _ (s : List ℕ) (h : ℕ) (a : Record) (set₀ : ℕ) (low : 1 ≤ h) (h
         place = omega arith;
         started = omega arith;
       }
-
-  pub begins : Runs s h 6 (replicate v 0) (replicate l 0) (replicate n a) set₀ 0
-  begins = runs-begin s h _ _ _ set₀ enough agreed
 
   module _ (asked : Bool) (read : List (List ℕ)) (queue turns rows : List ℕ) (c w : ℕ) where
     abbrev nothing-kept : Kept
