@@ -23,16 +23,6 @@ use Rattle.ledger.proofs.Waiters.{rootCount, newly, placed-is, NewOrOld, old, n
 
 -- ---- positions
 
-pub position-le : (i : ℕ) (l : List ℕ) → positionOf i l ≤ length l
-unfolding positionOf further
-position-le i [] = omega arith
-position-le i (x ∷ l) = go (eqb i x) (positionOf i l) (position-le i l)
-  where
-    go : (t : Bool) (n : ℕ) → n ≤ length l → cond t 1 (further n) ≤ suc (length l)
-    go true n b = omega arith
-    go false zero b = omega arith
-    go false (suc n) b = omega arith
-
 pub distinct-append : {l m : List ℕ} → Distinct l → Distinct m → ((i : ℕ) → List·Memᴰ i m → List·Memᴰ i l → ⊥) → Distinct (l ++ m)
 distinct-append nothing d apart = d
 distinct-append {m = m} (another {i} {is} z d) e apart =

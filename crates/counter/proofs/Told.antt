@@ -25,7 +25,7 @@ use Rattle.listing.proofs.Laws.{Distinct, nothing, listed-some}
 use Rattle.ledger.proofs.Did.{did, did-leaf, did-cases}
 use Rattle.ledger.proofs.Turns.{Turn, root, leaf, write, link, leftward, rightward, store, Next, after-root, after-leaf, after-write, reads-the-root, root-read-adds-not}
 use Rattle.ledger.proofs.Good.{Good, Stepping, accessBy, recordAfter, entryBy, turns, goes, root-read-ends, same-operation, by-stepper, by-process, stepped-row, good-start, false-true}
-use Rattle.ledger.proofs.Kept.{mem-keep, keep-none, mem-operations, position-first, position-second}
+use Rattle.ledger.proofs.Kept.{mem-keep, keep-none, mem-operations, position-le, position-first, position-second}
 use Rattle.ledger.proofs.Waiters.{rootCount, newly, placed-is, NewOrOld, old, new, new-or-old, waiters-write, waiter-writes, count-grows}
 use Rattle.ledger.proofs.Listing.{placed-read, still-waits}
 use Rattle.ledger.proofs.Placed.{once-on, placed-new, placed-apart}
@@ -38,7 +38,7 @@ use Rattle.counter.proofs.Values.{value-same, value-still}
 use Rattle.counter.proofs.Viewed.{stand-off}
 use Rattle.counter.proofs.Tied.{Tied}
 use Rattle.counter.proofs.Number.{run-append, run-same, run-newly}
-use Rattle.counter.proofs.Lists.{position-le, distinct-append, up-to-first, up-to-last, mem-up-to, root-lags, root-still, read-no-store, counted-listed}
+use Rattle.counter.proofs.Lists.{distinct-append, up-to-first, up-to-last, mem-up-to, root-lags, root-still, read-no-store, counted-listed}
 
 -- the sum of the leaves' values, each after those of its writes that are in node 1
 abbrev pub rootSum : ℕ → State → ℕ

@@ -12,7 +12,7 @@ use Rattle.sets.specs.Processes.{countBelow}
 use Rattle.sets.proofs.Laws.{count-differ, count-beyond, count-le}
 use Rattle.meaning.specs.TakenIn.{further, positionOf}
 use Rattle.listing.proofs.Laws.{Distinct, nothing, another, listed-some}
-use Rattle.counter.proofs.Lists.{position-le}
+use Rattle.ledger.proofs.Kept.{position-le}
 use Rattle.demand.specs.ReadBack.{withRank, byRank}
 
 -- ---- the rows of one rank

@@ -14,8 +14,9 @@ use Rattle.meaning.specs.TakenIn.{listed, positionOf, rank}
 use Rattle.meaning.specs.Plain.{numberAfter, runDown, upTo, timesIn}
 use Rattle.meaning.specs.Report.{one, reportBytes, needed, passes, answerWith, bufferWith, reportAnswer, reportBuffer}
 use Rattle.ledger.proofs.Good.{Good}
+use Rattle.ledger.proofs.Kept.{position-le}
 use Rattle.counter.proofs.Number.{run-same}
-use Rattle.counter.proofs.Lists.{position-le, mem-up-to, times-once}
+use Rattle.counter.proofs.Lists.{mem-up-to, times-once}
 use Rattle.counter.proofs.Told.{Told}
 use Rattle.engine.specs.Ends.{answerOf, Reports}
 use Rattle.engine.specs.declared.Reply.{Reply}

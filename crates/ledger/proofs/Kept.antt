@@ -1,5 +1,5 @@
 -- What `keep` leaves of a list, and where operations stand in one.
-use Prim.Native.Nat.{ℕ, zero, suc, _+_}
+use Prim.Native.Nat.{ℕ, zero, suc, _+_, _≤_}
 use native.Mathlib.Omega.{arith}
 use mathlib.Core.Path.{_≡_, refl, sym, ap, _∙_}
 use mathlib.Core.Logic.{_⊎_, inl, inr, ⊎-elim}
@@ -101,6 +101,16 @@ pub absent : (i : ℕ) (l : List ℕ) → (List·Memᴰ i l → ⊥) → positio
 absent i l n = ⊎-elim (λ z. z) (λ m. absurd (n m)) (found i l)
 
 -- in two lists one after the other
+pub position-le : (i : ℕ) (l : List ℕ) → positionOf i l ≤ length l
+unfolding positionOf further
+position-le i [] = omega arith
+position-le i (x ∷ l) = go (eqb i x) (positionOf i l) (position-le i l)
+  where
+    go : (t : Bool) (n : ℕ) → n ≤ length l → cond t 1 (further n) ≤ suc (length l)
+    go true n b = omega arith
+    go false zero b = omega arith
+    go false (suc n) b = omega arith
+
 pub position-first : (i : ℕ) (a b : List ℕ) → List·Memᴰ i a → positionOf i (a ++ b) ≡ positionOf i a
 position-first i (x ∷ a) b m = go (eqb i x) refl (position-first i a b) m
   where
