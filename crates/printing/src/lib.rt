@@ -68,6 +68,14 @@ fn lay_decimal(out: &mut [u8; 84009], at: usize, n: u32) -> usize
     lay_byte(out, last, 48 + (n % 10) as u8)
 }
 
+fn end_line(out: &mut [u8; 84009], at: usize) -> usize
+    requires { ⌜ Room (now out) at 1 ⌝ }
+    ensures { λ r. ⌜ Lays (now (out .entry)) at (text "\n") (now (out .exit)) r ⌝ }
+    ensures { λ r. ⌜ r ≤ at + 1 ⌝ }
+{
+    lay_byte(out, at, b'\n')
+}
+
 // A space and a number.
 fn lay_field(out: &mut [u8; 84009], at: usize, n: u32) -> usize
     requires { ⌜ Room (now out) at 11 ⌝ }
@@ -114,7 +122,7 @@ fn lay_numbers(out: &mut [u8; 84009], at: usize, report: &[u8; 20489], row: usiz
     next = lay_field(out, next, number_at(report, row + 8));
     next = lay_field(out, next, number_at(report, row + 12));
     next = lay_field(out, next, number_at(report, row + 16));
-    lay_byte(out, next, b'\n')
+    end_line(out, next)
 }
 
 // The line of the row that begins at a place of the report.
@@ -151,7 +159,7 @@ fn lay_first(out: &mut [u8; 84009], operations: u32, counter: u32) -> usize
     next = lay_field(out, next, operations);
     next = lay_word(out, next, b" counter");
     next = lay_field(out, next, counter);
-    lay_byte(out, next, b'\n')
+    end_line(out, next)
 }
 
 fn lay_refusal(out: &mut [u8; 84009], number: u32, place: u32) -> usize
@@ -162,7 +170,7 @@ fn lay_refusal(out: &mut [u8; 84009], number: u32, place: u32) -> usize
     let mut next = lay_word(out, 0, b"refused");
     next = lay_field(out, next, number);
     next = lay_field(out, next, place);
-    lay_byte(out, next, b'\n')
+    end_line(out, next)
 }
 
 // At most 65,537 bytes are taken in.

@@ -24,8 +24,8 @@ lay-word-requires-2 c κs = search needs
 lay-field-requires-2 : tie.Need-lay-field-requires-2
 lay-field-requires-2 c κs = search needs
 
-lay-byte-requires : tie.Need-lay-byte-requires
-lay-byte-requires c κs = search needs
+end-line-requires : tie.Need-end-line-requires
+end-line-requires c κs = search needs
 
 returns : tie.Need-returns
 unfolding text
@@ -34,7 +34,7 @@ returns c =
     let named = counter .before .before in
     let operations = named .before .before .before in
     let word = operations .before .before in
-    (lays-as (first-parts _ _) (lays-then (lays-then (lays-then (lays-then (word .lay-word .ensures) (operations .lay-field .ensures .0)) (named .lay-word2 .ensures)) (counter .lay-field2 .ensures .0)) (c .lay-byte .ensures)), search needs)
+    (lays-as (first-parts _ _) (lays-then (lays-then (lays-then (lays-then (word .lay-word .ensures) (operations .lay-field .ensures .0)) (named .lay-word2 .ensures)) (counter .lay-field2 .ensures .0)) (c .end-line .ensures .0)), search needs)
 
 pub lay-first-spec : {M : Type 1} → statement M
 lay-first-spec =
@@ -46,5 +46,5 @@ lay-first-spec =
     slice-aggregate-lay-word-2
     lay-word-requires-2
     lay-field-requires-2
-    lay-byte-requires
+    end-line-requires
     returns)

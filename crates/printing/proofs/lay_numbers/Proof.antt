@@ -43,8 +43,8 @@ number-at-requires-4 c κs = search needs
 lay-field-requires-4 : tie.Need-lay-field-requires-4
 lay-field-requires-4 c κs = search needs
 
-lay-byte-requires : tie.Need-lay-byte-requires
-lay-byte-requires c κs = search needs
+end-line-requires : tie.Need-end-line-requires
+end-line-requires c κs = search needs
 
 returns : tie.Need-returns
 unfolding numbersText text
@@ -57,7 +57,7 @@ returns c =
     let b = lays-as (ap field (answer .before .number-at2 .ensures)) (answer .lay-field2 .ensures .0) in
     let d = lays-as (ap field (rank .before .number-at3 .ensures)) (rank .lay-field3 .ensures .0) in
     let e = lays-as (ap field (seconds .before .number-at4 .ensures)) (seconds .lay-field4 .ensures .0) in
-    (lays-then (lays-then (lays-then (lays-then a b) d) e) (c .lay-byte .ensures), search needs)
+    (lays-then (lays-then (lays-then (lays-then a b) d) e) (c .end-line .ensures .0), search needs)
 
 pub lay-numbers-spec : {M : Type 1} → statement M
 lay-numbers-spec =
@@ -75,5 +75,5 @@ lay-numbers-spec =
     add-number-at-4
     number-at-requires-4
     lay-field-requires-4
-    lay-byte-requires
+    end-line-requires
     returns)

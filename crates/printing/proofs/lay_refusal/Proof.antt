@@ -18,8 +18,8 @@ lay-field-requires c κs = search needs
 lay-field-requires-2 : tie.Need-lay-field-requires-2
 lay-field-requires-2 c κs = search needs
 
-lay-byte-requires : tie.Need-lay-byte-requires
-lay-byte-requires c κs = search needs
+end-line-requires : tie.Need-end-line-requires
+end-line-requires c κs = search needs
 
 returns : tie.Need-returns
 unfolding text
@@ -27,7 +27,7 @@ returns c =
     let place = c .before .before in
     let number = place .before .before in
     let word = number .before .before in
-    (lays-as (refusal-parts _ _) (lays-then (lays-then (lays-then (word .lay-word .ensures) (number .lay-field .ensures .0)) (place .lay-field2 .ensures .0)) (c .lay-byte .ensures)), search needs)
+    (lays-as (refusal-parts _ _) (lays-then (lays-then (lays-then (word .lay-word .ensures) (number .lay-field .ensures .0)) (place .lay-field2 .ensures .0)) (c .end-line .ensures .0)), search needs)
 
 pub lay-refusal-spec : {M : Type 1} → statement M
 lay-refusal-spec =
@@ -37,5 +37,5 @@ lay-refusal-spec =
     lay-word-requires
     lay-field-requires
     lay-field-requires-2
-    lay-byte-requires
+    end-line-requires
     returns)
