@@ -1,18 +1,17 @@
 -- Every number of an accepted recording's report is below 2^32.
-use Prim.Native.Nat.{ℕ, suc, _+_, _*_, _%_, _^_, _≤_, _<_}
+use Prim.Native.Nat.{ℕ, suc, _+_, _^_, _≤_, _<_}
 use native.Mathlib.Omega.{arith}
 use mathlib.Core.Path.{_≡_, refl}
 use mathlib.Core.Bool.{Bool, true, false, cond}
 use mathlib.Core.List.{List, []}
-use lib.ListN.{length}
 use Rattle.sets.specs.Processes.{nobody, countBelow}
 use Rattle.cell.specs.Cell.{State as Cell, readOf, loadLinked, storeConditional}
 use Rattle.arrays.proofs.Laws.{upd-cases}
 use Rattle.meaning.specs.Layout.{height}
-use Rattle.meaning.specs.Tree.{root, left, right, processes}
+use Rattle.meaning.specs.Tree.{root, processes}
 use Rattle.meaning.specs.Access.{Access, starts, readsRoot, readsLeaf, writesLeaf, links, readsLeft, readsRight, stores, isRootRead, isSecondLink}
-use Rattle.meaning.specs.Steps.{upd, Memory, Process, idle, Effect, cellAt, withCell, withValue, plus, onward, sawIt, sawLeft, sawRight, atStep, effect, nextRecord}
-use Rattle.meaning.specs.Run.{Row, State, blank, initial, busy, started, kindOf, newRow, start, rowAfter, takeStep, accepted, outcome}
+use Rattle.meaning.specs.Steps.{upd, Memory, Process, idle, cellAt, withCell, withValue, plus, onward, sawIt, sawLeft, sawRight, atStep, effect, nextRecord}
+use Rattle.meaning.specs.Run.{State, blank, initial, busy, started, kindOf, newRow, start, rowAfter, takeStep, accepted, outcome}
 use Rattle.meaning.specs.TakenIn.{listed, rank}
 use Rattle.ledger.specs.Kept.{Kept}
 use Rattle.ledger.proofs.Good.{Good, Stepping, accessBy, effectBy, recordAfter, by-process, by-stepper, started-row, stepped-row}

@@ -4,19 +4,19 @@ use native.Mathlib.Nat.{zero-add, add-zero}
 use native.Mathlib.Omega.{arith}
 use mathlib.Core.Path.{_≡_, refl, sym, ap, ap₂, _∙_}
 use mathlib.Core.List.{List, [], _∷_, _++_, append-assoc}
-use lib.ListN.{length, getD, take, drop, length-append}
-use lib.Seq.{getD-append-add, getD-append-seam}
+use lib.ListN.{length, take, drop, length-append}
+use lib.Seq.{getD-append-add}
 use borrow.Author.Tests.{le-leb}
 use Rattle.recording.specs.Numbers.{fourBytes, numberAt}
 use Rattle.recording.specs.Record.{Answer}
-use Rattle.recording.proofs.Laws.{length-fourBytes, number-there, number-of-bytes-there}
+use Rattle.recording.proofs.Laws.{number-there, number-of-bytes-there}
 use Rattle.rows.proofs.Laws.{length-rowsBytes}
 use Rattle.meaning.specs.Layout.{height}
 use Rattle.meaning.specs.Tree.{root}
 use Rattle.meaning.specs.Run.{Row, State, Outcome, refused, accepted, outcome}
 use Rattle.meaning.specs.TakenIn.{rank}
 use Rattle.meaning.specs.Report.{one, rowBytes, rowsBytes, reportBytes, needed, passes, answerWith, bufferWith, reportAnswer, reportBuffer}
-use Rattle.meaning.specs.Printed.{decimal, line, text, rowLine, rowLines, printedOf, printed}
+use Rattle.meaning.specs.Printed.{rowLine, rowLines, printedOf, printed}
 use Rattle.engine.specs.Ends.{answerOf, Reports}
 use Rattle.engine.specs.declared.Reply.{Reply}
 use Rattle.engine.proofs.Laws.{refusal-positive}
