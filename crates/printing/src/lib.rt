@@ -1,5 +1,5 @@
 // The text that the printing program prints of a recording.
-ghost use Prim.Native.Nat.{_+_, _*_, _^_, _≤_, _<_};
+ghost use Prim.Native.Nat.{_+_, _*_, _≤_};
 ghost use mathlib.Core.Path.{_≡_};
 ghost use mathlib.Core.List.{[], _∷_, _++_};
 ghost use lib.ListN.{length, take};
@@ -21,19 +21,12 @@ fn wide(x: u8) -> u32
     x as u32
 }
 
-// The number in four bytes, highest first.
-fn number(a: u8, b: u8, c: u8, d: u8) -> u32
-    ensures { λ r. ⌜ r ≡ a * 2 ^ 24 + b * 2 ^ 16 + c * 2 ^ 8 + d ⌝ }
-{
-    wide(a) * 16777216 + wide(b) * 65536 + wide(c) * 256 + wide(d)
-}
-
 // The number in four bytes of a report from a place on.
 fn number_at(report: &[u8; 20489], at: usize) -> u32
     requires { ⌜ at + 4 ≤ 20489 ⌝ }
     ensures { λ r. ⌜ r ≡ numberAt (now (report .entry)) at ⌝ }
 {
-    number(report[at], report[at + 1], report[at + 2], report[at + 3])
+    recording::number(report[at], report[at + 1], report[at + 2], report[at + 3])
 }
 
 // One byte at a place; the place after it.

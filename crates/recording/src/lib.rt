@@ -32,7 +32,7 @@ fn wide(x: u8) -> u32
 }
 
 // The number in four bytes, highest first.
-fn number(a: u8, b: u8, c: u8, d: u8) -> u32
+pub fn number(a: u8, b: u8, c: u8, d: u8) -> u32
     ensures { λ r. ⌜ r ≡ a * 2 ^ 24 + b * 2 ^ 16 + c * 2 ^ 8 + d ⌝ }
 {
     wide(a) * 16777216 + wide(b) * 65536 + wide(c) * 256 + wide(d)

@@ -1,5 +1,5 @@
 // The report's rows as numbers, five a row, and their bytes.
-ghost use Prim.Native.Nat.{_+_, _*_, _^_, _≤_, _<_};
+ghost use Prim.Native.Nat.{_+_, _*_, _≤_, _<_};
 ghost use mathlib.Core.Path.{_≡_};
 ghost use mathlib.Core.List.{[], _∷_};
 ghost use lib.ListN.{length};
@@ -7,19 +7,6 @@ ghost use Rattle.recording.specs.Numbers.{fourBytes};
 ghost use Rattle.meaning.specs.Report.{one};
 ghost use Rattle.arrays.specs.Arrays.{asFun};
 ghost use Rattle.rows.specs.Rows.{freshNumbers, steppedNumbers, withRow, RoomToStep, numbersBytes, laidAt, laidReport};
-
-fn wide(x: u8) -> u32
-    ensures { λ r. ⌜ r ≡ x ⌝ }
-{
-    x as u32
-}
-
-// The number in four bytes, highest first.
-fn number(a: u8, b: u8, c: u8, d: u8) -> u32
-    ensures { λ r. ⌜ r ≡ a * 2 ^ 24 + b * 2 ^ 16 + c * 2 ^ 8 + d ⌝ }
-{
-    wide(a) * 16777216 + wide(b) * 65536 + wide(c) * 256 + wide(d)
-}
 
 // 1 if so, 0 if not.
 fn counted(b: bool) -> u32
@@ -46,7 +33,15 @@ pub fn start_row(rows: &mut [u32], i: usize, p: u8, kind: u8, contention: u8)
     requires { ⌜ (i < 1024) × (5 * i + 5 ≤ length (now rows)) ⌝ }
     ensures { λ r. ⌜ asFun (now (rows .exit)) ≡ withRow (asFun (now (rows .entry))) i (freshNumbers p kind contention) ⌝ }
 {
-    lay_row(rows, i, number(p, kind, 0, contention), 0, 0, 0, 0);
+    lay_row(
+        rows,
+        i,
+        recording::number(p, kind, 0, contention),
+        0,
+        0,
+        0,
+        0,
+    );
 }
 
 // Row i after one more step.

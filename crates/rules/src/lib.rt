@@ -1,23 +1,10 @@
 // The rules of a recording: its header, and each record by what the run keeps.
 use recording::Event;
-ghost use Prim.Native.Nat.{_+_, _*_, _^_, _≤_};
+ghost use Prim.Native.Nat.{_^_, _≤_};
 ghost use mathlib.Core.Path.{_≡_};
 ghost use Rattle.meaning.specs.Layout.{headRefusal};
 ghost use Rattle.meaning.specs.Run.{processOf, isStart};
 ghost use Rattle.rules.specs.Rules.{refusalBy};
-
-fn wide(x: u8) -> u32
-    ensures { λ r. ⌜ r ≡ x ⌝ }
-{
-    x as u32
-}
-
-// The number in four bytes, highest first.
-fn number(a: u8, b: u8, c: u8, d: u8) -> u32
-    ensures { λ r. ⌜ r ≡ a * 2 ^ 24 + b * 2 ^ 16 + c * 2 ^ 8 + d ⌝ }
-{
-    wide(a) * 16777216 + wide(b) * 65536 + wide(c) * 256 + wide(d)
-}
 
 // The refusal of the header, or 0.
 pub fn header(s: &[u8]) -> u32
@@ -32,7 +19,7 @@ pub fn header(s: &[u8]) -> u32
     if 65536 < s.len() {
         return 4;
     }
-    let follows = number(s[1], s[2], s[3], s[4]);
+    let follows = recording::number(s[1], s[2], s[3], s[4]);
     if follows as usize != s.len() - 5 {
         return 3;
     }
