@@ -1,4 +1,5 @@
 // The text that the printing program prints of a recording.
+use recording::number;
 ghost use Prim.Native.Nat.{_+_, _*_, _≤_};
 ghost use mathlib.Core.Path.{_≡_};
 ghost use mathlib.Core.List.{[], _∷_, _++_};
@@ -26,7 +27,7 @@ fn number_at(report: &[u8; 20489], at: usize) -> u32
     requires { ⌜ at + 4 ≤ 20489 ⌝ }
     ensures { λ r. ⌜ r ≡ numberAt (now (report .entry)) at ⌝ }
 {
-    recording::number(report[at], report[at + 1], report[at + 2], report[at + 3])
+    number(report[at], report[at + 1], report[at + 2], report[at + 3])
 }
 
 // One byte at a place; the place after it.

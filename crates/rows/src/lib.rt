@@ -1,4 +1,5 @@
 // The report's rows as numbers, five a row, and their bytes.
+use recording::number;
 ghost use Prim.Native.Nat.{_+_, _*_, _≤_, _<_};
 ghost use mathlib.Core.Path.{_≡_};
 ghost use mathlib.Core.List.{[], _∷_};
@@ -33,15 +34,7 @@ pub fn start_row(rows: &mut [u32], i: usize, p: u8, kind: u8, contention: u8)
     requires { ⌜ (i < 1024) × (5 * i + 5 ≤ length (now rows)) ⌝ }
     ensures { λ r. ⌜ asFun (now (rows .exit)) ≡ withRow (asFun (now (rows .entry))) i (freshNumbers p kind contention) ⌝ }
 {
-    lay_row(
-        rows,
-        i,
-        recording::number(p, kind, 0, contention),
-        0,
-        0,
-        0,
-        0,
-    );
+    lay_row(rows, i, number(p, kind, 0, contention), 0, 0, 0, 0);
 }
 
 // Row i after one more step.

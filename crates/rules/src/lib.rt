@@ -1,5 +1,6 @@
 // The rules of a recording: its header, and each record by what the run keeps.
 use recording::Event;
+use recording::number;
 ghost use Prim.Native.Nat.{_^_, _≤_};
 ghost use mathlib.Core.Path.{_≡_};
 ghost use Rattle.meaning.specs.Layout.{headRefusal};
@@ -19,7 +20,7 @@ pub fn header(s: &[u8]) -> u32
     if 65536 < s.len() {
         return 4;
     }
-    let follows = recording::number(s[1], s[2], s[3], s[4]);
+    let follows = number(s[1], s[2], s[3], s[4]);
     if follows as usize != s.len() - 5 {
         return 3;
     }
