@@ -18,8 +18,9 @@ need() {
 
 library=target/staticlib/libilvrotse.a
 
+# The library, built anew where a source is newer than it.
 need_library() {
-    if [ ! -f "$library" ]; then
+    if [ ! -f "$library" ] || [ -n "$(find crates crates.txt -newer "$library" -print -quit)" ]; then
         need rt
         rt staticlib ilvrotse || fail "rt staticlib ilvrotse failed"
     fi
