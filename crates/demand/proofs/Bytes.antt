@@ -15,7 +15,7 @@ use Rattle.meaning.specs.Tree.{root}
 use Rattle.meaning.specs.Run.{Row, State}
 use Rattle.meaning.specs.TakenIn.{rank}
 use Rattle.meaning.specs.Report.{one, rowBytes, rowsBytes, reportBytes}
-use Rattle.demand.specs.ReadBack.{rowAt, operationsIn, counterIn, kindIn, finishedIn, stepsIn, answerIn, rankIn, secondsIn}
+use Rattle.demand.specs.ReadBack.{rowAt, operationsIn, counterIn, processIn, kindIn, finishedIn, stepsIn, answerIn, rankIn, secondsIn}
 
 module _ (h : ℕ) (st : State) where
   abbrev bytesAt : ℕ → List ℕ
@@ -43,9 +43,17 @@ module _ (h : ℕ) (st : State) where
     abbrev bytes : List ℕ
     bytes = reportBytes h st ++ rest
 
+    pub version-in : getD bytes 0 0 ≡ 1
+    unfolding reportBytes
+    version-in = refl
+
+    pub length-in : st .operations ≤ 1024 → numberAt bytes 1 ≡ 4 + 20 * st .operations
+    unfolding reportBytes fourBytes
+    length-in few = number-of-bytes-there (1 ∷ []) (4 + 20 * st .operations) (fourBytes (st .memory .value root) ++ rowsBytes h st (st .operations) ++ rest) (omega arith)
+
     pub operations-in : st .operations ≤ 1024 → operationsIn bytes ≡ st .operations
-    unfolding operationsIn reportBytes fourBytes
-    operations-in few = omega (arith, number-of-bytes-there (1 ∷ []) (4 + 20 * st .operations) (fourBytes (st .memory .value root) ++ rowsBytes h st (st .operations) ++ rest) (omega arith))
+    unfolding operationsIn
+    operations-in few = omega (arith, length-in few)
 
     pub counter-in : st .memory .value root < 2 ^ 32 → counterIn bytes ≡ st .memory .value root
     unfolding counterIn reportBytes fourBytes
@@ -77,6 +85,10 @@ module _ (h : ℕ) (st : State) where
     number-in i k b =
         let r = row-split i b in
         (r .1, ap₂ (λ (l : List ℕ) (n : ℕ). numberAt l (n + k)) (r .3) (sym (r .2)) ∙ number-there (r .0) (bytesAt i ++ r .1) k)
+
+    pub process-in : (i : ℕ) → i < st .operations → processIn bytes i ≡ st .row i .process
+    unfolding processIn rowBytes
+    process-in i b = ap (λ (n : ℕ). getD bytes n 0) (omega arith) ∙ byte-at i 0 b .1
 
     pub kind-in : (i : ℕ) → i < st .operations → kindIn bytes i ≡ st .row i .kind
     unfolding kindIn rowBytes

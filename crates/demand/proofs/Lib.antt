@@ -1,7 +1,9 @@
 pub mod Holds
 pub mod Applied
 pub mod ByRank
-pub mod Deltas
+pub mod Starts
+pub mod Owners
 pub mod Bytes
 pub mod Records
 pub mod ReadBack
+pub mod AppliedBytes

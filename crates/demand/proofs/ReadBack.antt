@@ -1,7 +1,7 @@
 -- Demand 3 holds of the bytes that report writes: read back with the recording, they give the list, the answers and the counter.
 use Prim.Native.Nat.{ℕ, _+_, _*_, _%_, _^_, _≤_, _<_}
 use native.Mathlib.Omega.{arith}
-use mathlib.Core.Path.{_≡_, refl, sym, ap, _∙_, subst⁻¹}
+use mathlib.Core.Path.{_≡_, refl, sym, ap, _∙_, subst₂, subst⁻¹}
 use mathlib.Core.Bool.{Bool, true, false, cond}
 use mathlib.Core.List.{List, [], _∷_, _++_, List·Memᴰ}
 use lib.ListN.{length, drop}
@@ -16,18 +16,19 @@ use Rattle.meaning.specs.Report.{one, reportBytes, needed, passes, answerWith, 
 use Rattle.ledger.proofs.Good.{Good}
 use Rattle.ledger.proofs.Kept.{position-le}
 use Rattle.counter.proofs.Number.{run-same}
-use Rattle.counter.proofs.Lists.{mem-up-to, times-once}
+use Rattle.counter.proofs.Lists.{mem-up-to, times-not, times-once}
 use Rattle.counter.proofs.Told.{Told}
 use Rattle.engine.specs.Ends.{answerOf, Reports}
 use Rattle.engine.specs.declared.Reply.{Reply}
 use Rattle.engine.proofs.Laws.{refusal-positive}
 use Rattle.demand.specs.Demand3.{Demand3}
-use Rattle.demand.specs.ReadBack.{operationsIn, counterIn, kindIn, finishedIn, stepsIn, answerIn, rankIn, secondsIn, listIn, rowIn, operationsBy, ReadBack}
+use Rattle.demand.specs.ReadBack.{operationsIn, counterIn, processIn, kindIn, finishedIn, stepsIn, answerIn, rankIn, secondsIn, listIn, startRow, startIn, operationsBy, ReadBack}
 use Rattle.demand.proofs.Holds.{carried, demand-3}
 use Rattle.demand.proofs.ByRank.{few, by-rank}
-use Rattle.demand.proofs.Deltas.{starts-in, delta-in}
-use Rattle.demand.proofs.Records.{ended-before}
-use Rattle.demand.proofs.Bytes.{operations-in, counter-in, kind-in, finished-in, steps-in, answer-in, rank-in, seconds-in}
+use Rattle.demand.proofs.Starts.{starts-many, start-in}
+use Rattle.demand.proofs.Records.{ended-before, steps-by}
+use Rattle.demand.proofs.Owners.{Attempts, finished-again, no-answer, no-seconds, unread-steps, attempts, early-unlisted}
+use Rattle.demand.proofs.Bytes.{version-in, length-in, operations-in, counter-in, process-in, kind-in, finished-in, steps-in, answer-in, rank-in, seconds-in}
 
 -- a recording that report passes is accepted, and its report stands at the buffer's front
 passed : (s buf : List ℕ) → reportAnswer s buf ≡ passes → (st : State) × (outcome s ≡ accepted st) × (reportBuffer s buf ≡ reportBytes (height s) st ++ drop (needed st) buf)
@@ -101,11 +102,14 @@ module _ (s : List ℕ) (st : State) (e : outcome s ≡ accepted st) (rest : Lis
   unfolding listIn
   list-in = rw operations (by-rank (st .operations) list (told .apart) (told .known) (rankIn b) ranks)
 
+  -- the row that start record i tells of
+  told-by : (i : ℕ) → i < st .operations → (startIn s i .process ≡ st .row i .process) × (startIn s i .kind ≡ st .row i .kind) × (startIn s i .delta ≡ st .row i .delta)
+  unfolding startRow
+  told-by i l = let r = start-in s st e i l in (ap (λ (w : Row). w .process) r, ap (λ (w : Row). w .kind) r, ap (λ (w : Row). w .delta) r)
+
   -- the rows agree on what the plain number takes
-  run-in : (l : List ℕ) → ((i : ℕ) → List·Memᴰ i l → List·Memᴰ i list) → runDown (rowIn s b) 0 l ≡ runDown (st .row) 0 l
-  unfolding rowIn
-  run-in l sub =
-      run-same (rowIn s b) (st .row) 0 l (λ i m. let k = told .known i (sub i m) in (kind-in h st rest i k, delta-in s st e i k))
+  run-in : (l : List ℕ) → ((i : ℕ) → List·Memᴰ i l → List·Memᴰ i list) → runDown (startIn s) 0 l ≡ runDown (st .row) 0 l
+  run-in l sub = run-same (startIn s) (st .row) 0 l (λ i m. let r = told-by i (told .known i (sub i m)) in (r .1, r .2))
 
   is-read : (i : ℕ) → i < operationsIn b → kindIn b i ≡ 2 → st .row i .kind ≡ 2
   is-read i l k = sym (kind-in h st rest i (started i l)) ∙ k
@@ -116,15 +120,15 @@ module _ (s : List ℕ) (st : State) (e : outcome s ≡ accepted st) (rest : Lis
   is-unfinished : (i : ℕ) → i < operationsIn b → finishedIn b i ≡ 0 → st .row i .finished ≡ false
   is-unfinished i l f = finished-zero (st .row i .finished) (sym (finished-in h st rest i (started i l)) ∙ f)
 
-  answers : (i : ℕ) → i < operationsIn b → kindIn b i ≡ 2 → finishedIn b i ≡ 1 → answerIn b i ≡ runDown (rowIn s b) 0 (upTo i (listIn b))
+  answers : (i : ℕ) → i < operationsIn b → kindIn b i ≡ 2 → finishedIn b i ≡ 1 → answerIn b i ≡ runDown (startIn s) 0 (upTo i (listIn b))
   answers i l k f =
       let a = demand .answers i (is-read i l k) (is-finished i l f) in
       answer-in h st rest i (started i l) (omega (arith, a, run-below (st .row) 0 (upTo i list) (omega arith))) ∙ a
-      ∙ sym (run-in (upTo i list) (λ j m. mem-up-to i j list m)) ∙ ap (λ (x : List ℕ). runDown (rowIn s b) 0 (upTo i x)) (sym list-in)
+      ∙ sym (run-in (upTo i list) (λ j m. mem-up-to i j list m)) ∙ ap (λ (x : List ℕ). runDown (startIn s) 0 (upTo i x)) (sym list-in)
 
-  counter : runDown (rowIn s b) 0 (listIn b) ≡ counterIn b
+  counter : runDown (startIn s) 0 (listIn b) ≡ counterIn b
   counter =
-      ap (λ (x : List ℕ). runDown (rowIn s b) 0 x) list-in ∙ run-in list (λ i m. m) ∙ demand .counter
+      ap (λ (x : List ℕ). runDown (startIn s) 0 x) list-in ∙ run-in list (λ i m. m) ∙ demand .counter
       ∙ sym (counter-in h st rest (omega (arith, demand .counter, run-below (st .row) 0 list (omega arith))))
 
   order : (i j : ℕ) → i < operationsIn b → j < operationsIn b → finishedIn b i ≡ 1 → timesIn i (upTo j (operationsBy s)) ≡ timesIn i (operationsBy s)
@@ -139,26 +143,53 @@ module _ (s : List ℕ) (st : State) (e : outcome s ≡ accepted st) (rest : Lis
   steps : (i : ℕ) → i < operationsIn b → stepsIn b i ≡ st .row i .steps
   steps i l = steps-in h st rest i (started i l) (omega (arith, carried s st e .1 .counted .few i, good .high))
 
-  addition-steps : (i : ℕ) → i < operationsIn b → finishedIn b i ≡ 1 → kindIn b i ≡ 3 → (stepsIn b i ≡ 2 + 4 * h + 4 * secondsIn b i) × (secondsIn b i ≤ h)
-  addition-steps i l f k =
-      let a = demand .addition-steps i (is-finished i l f) (sym (kind-in h st rest i (started i l)) ∙ k) in
-      let n = seconds-in h st rest i (started i l) (omega (arith, a .1, good .high)) in
-      (omega (arith, steps i l, a .0, n), omega (arith, a .1, n))
+  seconds : (i : ℕ) → i < operationsIn b → secondsIn b i ≡ st .row i .seconds
+  seconds i l = seconds-in h st rest i (started i l) (omega (arith, attempts s st e i (started i l) .0, good .high))
+
+  same-process : (i : ℕ) → i < operationsIn b → processIn b i ≡ st .row i .process
+  same-process i l = process-in h st rest i (started i l)
+
+  again : (i j : ℕ) → i < j → j < operationsIn b → processIn b i ≡ processIn b j → finishedIn b i ≡ 1
+  unfolding one
+  again i j m l same =
+      finished-in h st rest i (omega (arith, started j l))
+      ∙ ap one (finished-again s st e i j m (started j l) (sym (same-process i (omega arith)) ∙ same ∙ same-process j l))
+
+  otherwise : (i : ℕ) → i < operationsIn b → (kindIn b i ≡ 2 → finishedIn b i ≡ 0) → answerIn b i ≡ 0
+  otherwise i l n =
+      let z = no-answer s st e i (λ k. is-unfinished i l (n (kind-in h st rest i (started i l) ∙ k))) in
+      answer-in h st rest i (started i l) (omega (arith, z)) ∙ z
+
+  read-steps : (i : ℕ) → i < operationsIn b → kindIn b i ≡ 2 → (stepsIn b i ≡ finishedIn b i) × (secondsIn b i ≡ 0)
+  unfolding one
+  read-steps i l k = (steps i l ∙ go (st .row i .finished) refl ∙ sym (finished-in h st rest i (started i l)), seconds i l ∙ no-seconds s st e i (is-read i l k))
+    where
+      go : (t : Bool) → st .row i .finished ≡ t → st .row i .steps ≡ one t
+      go true f = demand .read-steps i f (is-read i l k)
+      go false f = unread-steps s st e i (started i l) (is-read i l k) f
 
   bytes-read-back : ReadBack s b
   bytes-read-back =
       record {
-        rows = operations ∙ sym (starts-in s st e);
+        header = (version-in h st rest, length-in h st rest (good .few) ∙ ap (λ (n : ℕ). 4 + 20 * n) (sym operations));
+        rows = operations ∙ sym (starts-many s st e);
+        process = λ i l. same-process i l ∙ sym (told-by i (started i l) .0);
+        kind = λ i l. kind-in h st rest i (started i l) ∙ sym (told-by i (started i l) .1);
         either = λ i l. omega (arith, finished-in h st rest i (started i l), finished-few (st .row i .finished));
+        steps = λ i l. steps-by s st e i (started i l) ∙ omega (arith, steps i l);
+        again = again;
         answers = answers;
         counter = counter;
+        otherwise = otherwise;
         ranks = λ i l. ap (λ (x : List ℕ). positionOf i x) list-in ∙ sym (ranks i (started i l));
         finished = λ i l f. ap (λ (x : List ℕ). timesIn i x) list-in ∙ demand .finished i (is-finished i l f);
         unfinished = λ i. rw list-in (times-once i list (told .apart));
-        reads = λ i l k f. ap (λ (x : List ℕ). timesIn i x) list-in ∙ demand .reads i (is-read i l k) (is-unfinished i l f);
+        early = λ i l f few. ap (λ (x : List ℕ). timesIn i x) list-in ∙ times-not i list (early-unlisted s st e i (started i l) (is-unfinished i l f) (omega (arith, steps i l)));
         order = order;
-        read-steps = λ i l f k. steps i l ∙ demand .read-steps i (is-finished i l f) (is-read i l k);
-        addition-steps = addition-steps;
+        read-steps = read-steps;
+        addition-steps = λ i l f k. omega
+            (arith, steps i l, seconds i l, demand .addition-steps i (is-finished i l f) (sym (kind-in h st rest i (started i l)) ∙ k) .0);
+        seconds = λ i l. subst₂ (Attempts h) (sym (steps i l)) (sym (seconds i l)) (attempts s st e i (started i l));
         bound = λ i l f. omega (arith, steps i l, demand .bound i (is-unfinished i l f));
       }
 

@@ -8,7 +8,7 @@ use mathlib.Core.List.{List, [], _∷_, _++_, append-nil, append-assoc, List·Me
 use lib.ListN.{length, getD, length-append, List·getD-append}
 use lib.Seq.{getD-at}
 use lib.Dec.{eqb, ltb}
-use borrow.Author.Tests.{eqb-true, eqb-false, eq-eqb, ltb-true, ltb-false}
+use borrow.Author.Tests.{eqb-true, eqb-false, eq-eqb, ne-eqb, ltb-true, ltb-false}
 use Rattle.arrays.proofs.Laws.{upd-cases}
 use Rattle.recording.specs.declared.Event.the-variants.{Step, Read, Add}
 use Rattle.meaning.specs.Layout.{Records, end, broken, event, height, recordsOf}
@@ -17,7 +17,7 @@ use Rattle.meaning.specs.Run.{Entry, State, blank, initial, started, newRow, st
 use Rattle.meaning.specs.Plain.{upTo, timesIn}
 use Rattle.machine.proofs.Laws.{effect-keeps}
 use Rattle.ledger.proofs.Good.{Good, Stepping, recordAfter, accessBy, stepped-row, false-true}
-use Rattle.counter.proofs.Lists.{up-to-first, up-to-last}
+use Rattle.counter.proofs.Lists.{up-to-first, up-to-last, times-not}
 use Rattle.engine.proofs.Accepted.{none-refused, accepted-run, accepted-keeps}
 use Rattle.demand.specs.ReadBack.{operationsFrom, operationsBy}
 
@@ -77,6 +77,20 @@ record Placed (h : ℕ) (st : State) : Type 0 where
   begun : (i : ℕ) → i < st .operations → List·Memᴰ i (operationsIn (st .history))
   first : (i : ℕ) → i < st .operations → length (upTo i (operationsIn (st .history))) ≡ st .row i .started
   last : (i : ℕ) → st .row i .finished ≡ true → (st .row i .ended < length (st .history)) × (getD (operationsIn (st .history)) (st .row i .ended) 0 ≡ i)
+  -- its start and its steps
+  many : (i : ℕ) → i < st .operations → timesIn i (operationsIn (st .history)) ≡ suc (st .row i .steps)
+
+-- one more at the end
+times-more : (i j : ℕ) (l : List ℕ) → timesIn i (l ++ (j ∷ [])) ≡ timesIn i l + cond (eqb i j) 1 0
+unfolding timesIn
+times-more i j [] = omega arith
+times-more i j (x ∷ l) = omega (arith, times-more i j l)
+
+times-own : (i j : ℕ) (l : List ℕ) → i ≡ j → timesIn i (l ++ (j ∷ [])) ≡ suc (timesIn i l)
+times-own i j l e = times-more i j l ∙ ap (λ (t : Bool). timesIn i l + cond t 1 0) (eq-eqb i j e) ∙ omega arith
+
+times-other : (i j : ℕ) (l : List ℕ) → (i ≡ j → ⊥) → timesIn i (l ++ (j ∷ [])) ≡ timesIn i l
+times-other i j l n = times-more i j l ∙ ap (λ (t : Bool). timesIn i l + cond t 1 0) (ne-eqb i j n) ∙ omega arith
 
 -- what was the last stays so, with one more after it
 last-stays : (es : List Entry) (j i n : ℕ) → (n < length es) × (getD (operationsIn es) n 0 ≡ i) → (n < suc (length es)) × (getD (operationsIn es ++ (j ∷ [])) n 0 ≡ i)
@@ -90,6 +104,7 @@ placed-initial h =
       begun = λ i b. absurd (omega arith);
       first = λ i b. absurd (omega arith);
       last = λ i f. absurd (false-true f);
+      many = λ i b. absurd (omega arith);
     }
 
 placed-step : (h p : ℕ) (st : State) → Stepping h p st → Placed h st → Placed h (takeStep h p st)
@@ -103,6 +118,9 @@ placed-step h p st s k =
       last = λ i. stepped-row h p st s i (λ w. w .finished ≡ true → (w .ended < suc (length (st .history))) × (getD (before ++ (own ∷ [])) (w .ended) 0 ≡ i))
           (λ e f. (omega arith, getD-at before own [] 0 (length (st .history)) (length-operations (st .history)) ∙ sym e))
           (λ n f. last-stays (st .history) own i (st .row i .ended) (k .last i f));
+      many = λ i b. stepped-row h p st s i (λ w. timesIn i (before ++ (own ∷ [])) ≡ suc (w .steps))
+          (λ e. times-own i own before e ∙ ap suc (k .many i b) ∙ ap (λ (j : ℕ). suc (suc (st .row j .steps))) e)
+          (λ n. times-other i own before n ∙ k .many i b);
     }
   where
     before : List ℕ
@@ -125,6 +143,9 @@ placed-start h p adds delta st g inside free room k =
           (λ n. ap length (up-to-first i before (new ∷ []) (k .begun i (omega arith))) ∙ k .first i (omega arith));
       last = λ i. upd-cases (st .row) new _ (λ w. w .finished ≡ true → (w .ended < suc (length (st .history))) × (getD (before ++ (new ∷ [])) (w .ended) 0 ≡ i)) i
           (λ e f. absurd (false-true f)) (λ n f. last-stays (st .history) new i (st .row i .ended) (k .last i f));
+      many = λ i b. upd-cases (st .row) new _ (λ w. timesIn i (before ++ (new ∷ [])) ≡ suc (w .steps)) i
+          (λ e. times-own i new before e ∙ ap suc (times-not i before (λ m. omega (arith, k .known i m))))
+          (λ n. times-other i new before n ∙ k .many i (omega arith));
     }
   where
     before : List ℕ
@@ -161,12 +182,15 @@ times-later i j n (x ∷ l) a b e = go (eqb j x) n a b e (λ k. times-later i j 
     go false zero a b e ih = absurd (omega arith)
     go false (suc n) a b e ih = omega (arith, ih n (omega arith) (omega arith) e)
 
+placed : (s : List ℕ) (st : State) → outcome s ≡ accepted st → Placed (height s) st
+placed s st e = accepted-keeps Placed placed-initial (λ h p x y z. placed-step h p x y z) (λ h p a d x g c f o z. placed-start h p a d x g c f o z) s st e .1
+
 pub ended-before : (s : List ℕ) (st : State) → outcome s ≡ accepted st → (i j : ℕ) → j < st .operations → st .row i .finished ≡ true
     → timesIn i (upTo j (operationsBy s)) ≡ timesIn i (operationsBy s) → st .row i .ended < st .row j .started
 ended-before s st e i j b f all = go (ltb (st .row i .ended) (st .row j .started)) refl
   where
     k : Placed (height s) st
-    k = accepted-keeps Placed placed-initial (λ h p x y z. placed-step h p x y z) (λ h p a d x g c f o z. placed-start h p a d x g c f o z) s st e .1
+    k = placed s st e
 
     list : List ℕ
     list = operationsIn (st .history)
@@ -181,3 +205,7 @@ ended-before s st e i j b f all = go (ltb (st .row i .ended) (st .row j .started
         absurd
         (omega
         (arith, its, times-later i j (st .row i .ended) list (omega (arith, ltb-false (st .row i .ended) (st .row j .started) d, k .first j b)) (omega (arith, l .0, length-operations (st .history))) (l .1)))
+
+-- an operation's records are its start and its steps
+pub steps-by : (s : List ℕ) (st : State) → outcome s ≡ accepted st → (i : ℕ) → i < st .operations → timesIn i (operationsBy s) ≡ suc (st .row i .steps)
+steps-by s st e i b = ap (λ (l : List ℕ). timesIn i l) (operations-by s st e) ∙ placed s st e .many i b

@@ -1,3 +1,4 @@
 pub mod Demand3
 pub mod Applied
 pub mod ReadBack
+pub mod AppliedBytes

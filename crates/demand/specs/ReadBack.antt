@@ -1,5 +1,5 @@
--- Demand 3 as someone can try it who has the recording s and the report's bytes b alone, and runs no tree: the list is made of the rows'
--- ranks, the deltas are those of the recording's start records.
+-- Demand 3 as someone can try it who has the recording s and the report's bytes b alone, and runs no tree: every column is held to the
+-- recording, the contention not yet; the list is made of the rows' ranks, and the deltas are those of the start records.
 use Prim.Native.Nat.{ℕ, zero, suc, _+_, _-_, _*_, _/_, _≤_, _<_}
 use mathlib.Core.Path.{_≡_}
 use mathlib.Core.Bool.{false, cond}
@@ -10,7 +10,7 @@ use Rattle.recording.specs.Numbers.{numberAt}
 use Rattle.recording.specs.declared.Event.the-variants.{Step, Read, Add}
 use Rattle.meaning.specs.Layout.{height, Records, end, broken, event, recordsOf}
 use Rattle.meaning.specs.Steps.{upd}
-use Rattle.meaning.specs.Run.{Row}
+use Rattle.meaning.specs.Run.{Row, blank}
 use Rattle.meaning.specs.TakenIn.{positionOf}
 use Rattle.meaning.specs.Plain.{runDown, upTo, timesIn}
 
@@ -26,6 +26,9 @@ operationsIn b = (numberAt b 1 - 4) / 20
 
 unfoldable pub counterIn : List ℕ → ℕ
 counterIn b = numberAt b 5
+
+unfoldable pub processIn : List ℕ → ℕ → ℕ
+processIn b i = getD b (rowAt i) 0
 
 unfoldable pub kindIn : List ℕ → ℕ → ℕ
 kindIn b i = getD b (rowAt i + 1) 0
@@ -60,31 +63,24 @@ byRank rank m (suc n) = byRank rank m n ++ withRank rank (suc n) m
 unfoldable pub listIn : List ℕ → List ℕ
 listIn b = byRank (rankIn b) (operationsIn b) (operationsIn b)
 
--- ---- the deltas
+-- ---- the start records
 
--- those of the start records in their order, which is the rows'; a read's is 0
-unfoldable pub deltasOf : Records → List ℕ
-deltasOf end = []
-deltasOf (broken at) = []
-deltasOf (event at (Step p) rest) = deltasOf rest
-deltasOf (event at (Read p) rest) = 0 ∷ deltasOf rest
-deltasOf (event at (Add p d) rest) = d ∷ deltasOf rest
+-- a row of which only process, kind and delta are told
+unfoldable pub startRow : ℕ → ℕ → ℕ → Row
+startRow p kind delta =
+    record { process = p; kind = kind; delta = delta; finished = false; contention = 0; steps = 0; answer = 0; seconds = 0; started = 0; ended = 0 }
 
--- row i with what the plain number takes of it, its kind and its delta
-unfoldable pub rowIn : List ℕ → List ℕ → ℕ → Row
-rowIn s b i =
-    record {
-      process = 0;
-      kind = kindIn b i;
-      delta = getD (deltasOf (recordsOf s)) i 0;
-      finished = false;
-      contention = 0;
-      steps = 0;
-      answer = 0;
-      seconds = 0;
-      started = 0;
-      ended = 0;
-    }
+-- those of the start records in their order, which is the rows'; a read's delta is 0
+unfoldable pub startsOf : Records → List Row
+startsOf end = []
+startsOf (broken at) = []
+startsOf (event at (Step p) rest) = startsOf rest
+startsOf (event at (Read p) rest) = startRow p 2 0 ∷ startsOf rest
+startsOf (event at (Add p d) rest) = startRow p 3 d ∷ startsOf rest
+
+-- what start record i, from 0, tells of row i
+unfoldable pub startIn : List ℕ → ℕ → Row
+startIn s i = getD (startsOf (recordsOf s)) i blank
 
 -- ---- which operation each record is of
 
@@ -103,24 +99,36 @@ operationsBy s = operationsFrom 0 (λ p. 0) (recordsOf s)
 -- ---- demand 3
 
 pub record ReadBack (s b : List ℕ) : Type 0 where
-  -- a row for each start record, and its operation finished or not
-  pub rows : operationsIn b ≡ length (deltasOf (recordsOf s))
+  -- "Byte 0: version 1. Bytes 1 to 4: 4 + 20m. [..] Then one row of 20 bytes for each operation in order of start"
+  pub header : (getD b 0 0 ≡ 1) × (numberAt b 1 ≡ 4 + 20 * operationsIn b)
+  pub rows : operationsIn b ≡ length (startsOf (recordsOf s))
+  pub process : (i : ℕ) → i < operationsIn b → processIn b i ≡ startIn s i .process
+  pub kind : (i : ℕ) → i < operationsIn b → kindIn b i ≡ startIn s i .kind
   pub either : (i : ℕ) → i < operationsIn b → finishedIn b i ≤ 1
+  -- "Each operation's count of steps is the number of kind 1 records it used": its records are these and its start record
+  pub steps : (i : ℕ) → i < operationsIn b → timesIn i (operationsBy s) ≡ 1 + stepsIn b i
+  -- "8: a start for a process that is busy": where i's process starts again, i has finished
+  pub again : (i j : ℕ) → i < j → j < operationsIn b → processIn b i ≡ processIn b j → finishedIn b i ≡ 1
   -- "One plain number from 0, run down that list modulo 2^32, gives every read its reported answer and ends at the root's value."
-  pub answers : (i : ℕ) → i < operationsIn b → kindIn b i ≡ 2 → finishedIn b i ≡ 1 → answerIn b i ≡ runDown (rowIn s b) 0 (upTo i (listIn b))
-  pub counter : runDown (rowIn s b) 0 (listIn b) ≡ counterIn b
+  pub answers : (i : ℕ) → i < operationsIn b → kindIn b i ≡ 2 → finishedIn b i ≡ 1 → answerIn b i ≡ runDown (startIn s) 0 (upTo i (listIn b))
+  pub counter : runDown (startIn s) 0 (listIn b) ≡ counterIn b
+  -- "a finished read's answer; otherwise 0"
+  pub otherwise : (i : ℕ) → i < operationsIn b → (kindIn b i ≡ 2 → finishedIn b i ≡ 0) → answerIn b i ≡ 0
   -- "An operation's rank is its position, from 1": no rank is left out, and none above 0 stands in two rows
   pub ranks : (i : ℕ) → i < operationsIn b → positionOf i (listIn b) ≡ rankIn b i
-  -- "Each finished operation is listed once, an unfinished one at most once"; an unfinished read never
+  -- "Each finished operation is listed once, an unfinished one at most once"; an unfinished read never, nor an addition before its "write
+  -- there [..], which is step 2"
   pub finished : (i : ℕ) → i < operationsIn b → finishedIn b i ≡ 1 → timesIn i (listIn b) ≡ 1
   pub unfinished : (i : ℕ) → timesIn i (listIn b) ≤ 1
-  pub reads : (i : ℕ) → i < operationsIn b → kindIn b i ≡ 2 → finishedIn b i ≡ 0 → timesIn i (listIn b) ≡ 0
+  pub early : (i : ℕ) → i < operationsIn b → finishedIn b i ≡ 0 → stepsIn b i < 2 → timesIn i (listIn b) ≡ 0
   -- "One that finished before another started never stands after it": all of i's records come before j's first, its start
   pub order : (i j : ℕ) → i < operationsIn b → j < operationsIn b → finishedIn b i ≡ 1 → timesIn i (upTo j (operationsBy s)) ≡ timesIn i (operationsBy s)
       → 1 ≤ rankIn b j → rankIn b i < rankIn b j
-  -- "A finished read has 1. A finished addition has 2 + 4h + 4f, where f is its number of second attempts, 0 to h."
-  pub read-steps : (i : ℕ) → i < operationsIn b → finishedIn b i ≡ 1 → kindIn b i ≡ 2 → stepsIn b i ≡ 1
-  pub addition-steps : (i : ℕ) → i < operationsIn b → finishedIn b i ≡ 1 → kindIn b i ≡ 3
-      → (stepsIn b i ≡ 2 + 4 * height s + 4 * secondsIn b i) × (secondsIn b i ≤ height s)
+  -- "A finished read has 1", an unfinished one none; a read makes no attempt
+  pub read-steps : (i : ℕ) → i < operationsIn b → kindIn b i ≡ 2 → (stepsIn b i ≡ finishedIn b i) × (secondsIn b i ≡ 0)
+  -- "A finished addition has 2 + 4h + 4f, where f is its number of second attempts, 0 to h."
+  pub addition-steps : (i : ℕ) → i < operationsIn b → finishedIn b i ≡ 1 → kindIn b i ≡ 3 → stepsIn b i ≡ 2 + 4 * height s + 4 * secondsIn b i
+  -- f finished or not: two steps at the leaf, at each node a first attempt, and the second attempt f not begun before step 8f − 1
+  pub seconds : (i : ℕ) → i < operationsIn b → (secondsIn b i ≤ height s) × (8 * secondsIn b i ≤ stepsIn b i + 1) × (stepsIn b i ≤ 2 + 4 * height s + 4 * secondsIn b i)
   -- "No addition has taken 2 + 8h steps and is still unfinished"
   pub bound : (i : ℕ) → i < operationsIn b → finishedIn b i ≡ 0 → stepsIn b i < 2 + 8 * height s

@@ -1,0 +1,272 @@
+-- Whose operation each row is: an unfinished one is its process's own, and the last that its process started. What a row has while it is
+-- no finished read, and how many second attempts go with how many steps.
+use Prim.Native.Nat.{ℕ, zero, suc, _+_, _-_, _*_, _/_, _%_, _^_, _≤_, _<_}
+use native.Mathlib.Omega.{arith}
+use mathlib.Core.Path.{_≡_, refl, sym, ap, _∙_, subst}
+use mathlib.Core.Logic.{_⊎_, inl, inr, ⊎-elim}
+use mathlib.Core.Bool.{Bool, true, false, cond}
+use mathlib.Core.List.{List, [], _∷_, List·Memᴰ, List·Memᴰ·append-cases, List·Memᴰ·eq-of-singleton, List·Memᴰ·not-nil}
+use lib.ListN.{length}
+use lib.Dec.{leb, eqb}
+use borrow.Author.Tests.{leb-true, leb-false, eqb-true, eqb-false}
+use Rattle.arrays.proofs.Laws.{upd-cases}
+use Rattle.meaning.specs.Layout.{height}
+use Rattle.meaning.specs.Access.{Access, isRootRead, isLeafWrite, isSecondLink}
+use Rattle.meaning.specs.Steps.{Process, idle as idleProcess}
+use Rattle.meaning.specs.Run.{Entry, Row, State, blank, initial, started, kindOf, newRow, start, rowAfter, takeStep, accepted, outcome}
+use Rattle.meaning.specs.TakenIn.{keep, placed, listed}
+use Rattle.machine.proofs.Laws.{last-addition}
+use Rattle.taken.specs.CountIn.{waiters}
+use Rattle.taken.proofs.Agree.{Once, more, written}
+use Rattle.ledger.proofs.Did.{did, did-leaf, did-now, did-on}
+use Rattle.ledger.proofs.Kept.{mem-keep, mem-operations}
+use Rattle.ledger.proofs.Waiters.{newly, placed-is, waiter-writes}
+use Rattle.ledger.proofs.Listing.{placed-read}
+use Rattle.ledger.proofs.Turns.{Turn, root, leaf, write, link, leftward, rightward, store}
+use Rattle.ledger.proofs.Good.{Good, Stepping, accessBy, recordAfter, turns, goes, same-operation, by-stepper, stepped-row, root-read-ends, false-true}
+use Rattle.ledger.proofs.StepCount.{StepCount, Going, kind-two, kind-three, not-done, count-step, count-start, count-initial}
+use Rattle.engine.proofs.Accepted.{accepted-keeps}
+
+-- a process's record that is busy with operation i
+abbrev Held : ℕ → Process → Type 0
+Held i x = (1 ≤ x .step) × (x .operation ≡ i)
+
+kind-three-else : (t : Bool) → (kindOf t ≡ 2 → ⊥) → kindOf t ≡ 3
+unfolding kindOf
+kind-three-else true n = refl
+kind-three-else false n = absurd (n refl)
+
+-- f second attempts of n steps, of height h
+abbrev pub Attempts : ℕ → ℕ → ℕ → Type 0
+Attempts h n f = (f ≤ h) × (8 * f ≤ n + 1) × (n ≤ 2 + 4 * h + 4 * f)
+
+-- an addition under way
+going-attempts : (h s n f : ℕ) → 1 ≤ h → s ≤ 2 + 8 * h → Going s n f → Attempts h n f
+going-attempts h s n f low last g = go (leb 3 s) refl
+  where
+    late : (t : Bool) → leb 5 ((s - 3) % 8) ≡ t → 3 ≤ s → n + 4 * cond t 1 0 ≡ 2 + 4 * ((s - 3) / 8) + 4 * f + (s - 3) % 8 → f ≤ (s - 3) / 8 + cond t 1 0 → Attempts h n f
+    late true e b x y = let v = leb-true 5 ((s - 3) % 8) e in (omega arith, omega arith, omega arith)
+    late false e b x y = let v = leb-false 5 ((s - 3) % 8) e in (omega arith, omega arith, omega arith)
+
+    go : (t : Bool) → leb 3 s ≡ t → Attempts h n f
+    go true e = let b = leb-true 3 s e in let q = g .late b in late (leb 5 ((s - 3) % 8)) refl b (q .0) (q .1)
+    go false e = let b = leb-false 3 s e in let q = g .early (omega arith) in (omega (arith, q .1), omega (arith, q .1), omega (arith, q .0))
+
+-- one of fewer than two steps has not made step 2
+going-early : (s n f : ℕ) → n < 2 → Going s n f → s ≤ 2
+going-early s n f few g = go (leb 3 s) refl
+  where
+    late : (t : Bool) → leb 5 ((s - 3) % 8) ≡ t → n + 4 * cond t 1 0 ≡ 2 + 4 * ((s - 3) / 8) + 4 * f + (s - 3) % 8 → ⊥
+    late true e x = omega (arith, leb-true 5 ((s - 3) % 8) e)
+    late false e x = omega arith
+
+    go : (t : Bool) → leb 3 s ≡ t → s ≤ 2
+    go true e = absurd (late (leb 5 ((s - 3) % 8)) refl (g .late (leb-true 3 s e) .0))
+    go false e = omega (arith, leb-false 3 s e)
+
+record Owned (h : ℕ) (st : State) : Type 0 where
+  -- a busy process's row names it
+  own : (p : ℕ) → 1 ≤ st .process p .step → st .row (st .process p .operation) .process ≡ p
+  -- an unfinished row's process is busy with it
+  held : (i : ℕ) → i < st .operations → st .row i .finished ≡ false → Held i (st .process (st .row i .process))
+  -- no row is later than its process's operation
+  latest : (i : ℕ) → i < st .operations → i ≤ st .process (st .row i .process) .operation
+  kinds : (i : ℕ) → i < st .operations → (st .row i .kind ≡ 2 → ⊥) → st .row i .kind ≡ 3
+  -- no answer but a finished read's, and no second attempt of a read
+  silent : (i : ℕ) → (st .row i .kind ≡ 2 → st .row i .finished ≡ false) → st .row i .answer ≡ 0
+  plain : (i : ℕ) → st .row i .kind ≡ 2 → st .row i .seconds ≡ 0
+
+owned-initial : (h : ℕ) → Owned h initial
+unfolding initial idleProcess blank
+owned-initial h =
+    record {
+      own = λ p b. absurd (omega arith);
+      held = λ i b f. absurd (omega arith);
+      latest = λ i b. absurd (omega arith);
+      kinds = λ i b n. absurd (omega arith);
+      silent = λ i n. refl;
+      plain = λ i k. refl;
+    }
+
+-- a read's step is no second LL
+read-links-not : (h p : ℕ) (st : State) {a : Access} → Turn h p (st .process p) a → st .process p .adds ≡ false → isSecondLink a ≡ false
+unfolding isSecondLink
+read-links-not h p st (root e w) d = refl
+read-links-not h p st (leaf e w) d = refl
+read-links-not h p st (write e w) d = refl
+read-links-not h p st (link e t w) d = absurd (false-true (sym d ∙ e))
+read-links-not h p st (leftward e t w) d = refl
+read-links-not h p st (rightward e t w) d = refl
+read-links-not h p st (store e t w) d = refl
+
+module _ (h p : ℕ) (st : State) (s : Stepping h p st) (c : StepCount h st) (k : Owned h st) where
+  -- a row's process stays
+  same-process : (i : ℕ) → takeStep h p st .row i .process ≡ st .row i .process
+  unfolding rowAfter
+  same-process i = stepped-row h p st s i (λ w. w .process ≡ st .row i .process) (λ e. ap (λ (j : ℕ). st .row j .process) (sym e)) (λ n. refl)
+
+  -- the record of a row's process after the step
+  of-row : (i : ℕ) (P : Process → Type 0) → (st .row i .process ≡ p → P (recordAfter h p st)) → ((st .row i .process ≡ p → ⊥) → P (st .process (st .row i .process)))
+      → P (takeStep h p st .process (takeStep h p st .row i .process))
+  of-row i P now before =
+      by-stepper h p st s (λ q x. q ≡ st .row i .process → P x) (λ e. now (sym e)) (λ q n e. subst (λ (j : ℕ). P (st .process j)) (sym e) (before (λ z. n (e ∙ z))))
+      (takeStep h p st .row i .process) (same-process i)
+
+  abbrev r : Process
+  r = st .process p
+
+  -- its own row
+  named : (i : ℕ) → i ≡ r .operation → st .row i .process ≡ p
+  named i e = ap (λ (j : ℕ). st .row j .process) e ∙ k .own p (s .acts)
+
+  is-read : st .row (r .operation) .kind ≡ 2 → r .adds ≡ false
+  is-read d = kind-two (r .adds) (sym (c .kinds p (s .acts)) ∙ d)
+
+  -- an answer is given by the step that ends a read
+  silent-now : (t : Bool) → isRootRead (accessBy h p st) ≡ t → (st .row (r .operation) .kind ≡ 2 → eqb (recordAfter h p st .step) 0 ≡ false) → cond t (recordAfter h p st .seen) 0 ≡ 0
+  unfolding kindOf
+  silent-now true d n =
+      let u = root-read-ends h p st s (turns h p st s) (goes h p st s) d in
+      absurd (false-true (sym (n (c .kinds p (s .acts) ∙ ap kindOf (u .1))) ∙ ap (λ (x : ℕ). eqb x 0) (u .0)))
+  silent-now false d n = refl
+
+  owned-step : Owned h (takeStep h p st)
+  unfolding rowAfter takeStep
+  owned-step =
+      record {
+        own = by-stepper h p st s (λ q x. 1 ≤ x .step → takeStep h p st .row (x .operation) .process ≡ q)
+            (λ b. same-process (recordAfter h p st .operation) ∙ named (recordAfter h p st .operation) (same-operation h p st s))
+            (λ q n b. same-process (st .process q .operation) ∙ k .own q b);
+        held = λ i b. stepped-row h p st s i (λ w. w .finished ≡ false → Held i (takeStep h p st .process (takeStep h p st .row i .process)))
+            (λ e f. of-row i (Held i) (λ o. (not-done (recordAfter h p st .step) f, same-operation h p st s ∙ sym e)) (λ o. absurd (o (named i e))))
+            (λ n f. of-row i (Held i) (λ o. absurd (n (sym (k .held i b f .1) ∙ ap (λ (q : ℕ). st .process q .operation) o))) (λ o. k .held i b f));
+        latest = λ i b. of-row i (λ x. i ≤ x .operation) (λ o. omega (arith, same-operation h p st s, k .latest i b, ap (λ (q : ℕ). st .process q .operation) o)) (λ o. k .latest i b);
+        kinds = λ i b. stepped-row h p st s i (λ w. (w .kind ≡ 2 → ⊥) → w .kind ≡ 3) (λ e. k .kinds (r .operation) (s .good .owns p (s .acts))) (λ n. k .kinds i b);
+        silent = λ i. stepped-row h p st s i (λ w. (w .kind ≡ 2 → w .finished ≡ false) → w .answer ≡ 0) (λ e. silent-now (isRootRead (accessBy h p st)) refl) (λ n. k .silent i);
+        plain = λ i. stepped-row h p st s i (λ w. w .kind ≡ 2 → w .seconds ≡ 0)
+            (λ e d. omega (arith, k .plain (r .operation) d, ap {B = ℕ} (λ (t : Bool). cond t 1 0) (read-links-not h p st (turns h p st s) (is-read d)))) (λ n. k .plain i);
+      }
+
+module _ (h p : ℕ) (adds : Bool) (delta : ℕ) (st : State) (g : Good h st) (inside : p < 2 ^ h) (free : st .process p .step ≡ 0) (room : st .operations < 1024) (k : Owned h st) where
+  abbrev after : State
+  after = start h p adds delta st
+
+  -- the new row, and the others
+  new-or-old : (i : ℕ) (P : Row → Type 0) → (i ≡ st .operations → P (newRow h p adds delta (after .process) (length (st .history)))) → ((i ≡ st .operations → ⊥) → P (st .row i)) → P (after .row i)
+  unfolding start
+  new-or-old i P now before = upd-cases (st .row) (st .operations) _ P i now before
+
+  -- the record of process q after the start
+  of-process : (q : ℕ) (P : Process → Type 0) → (q ≡ p → P (started (st .operations) adds delta)) → ((q ≡ p → ⊥) → P (st .process q)) → P (after .process q)
+  unfolding start
+  of-process q P now before = upd-cases (st .process) p _ P q now before
+
+  owned-start : Owned h after
+  unfolding start started newRow
+  owned-start =
+      record {
+        own = λ q. of-process q (λ x. 1 ≤ x .step → after .row (x .operation) .process ≡ q)
+            (λ e b. new-or-old (st .operations) (λ w. w .process ≡ q) (λ o. sym e) (λ n. absurd (n refl)))
+            (λ n b. new-or-old (st .process q .operation) (λ w. w .process ≡ q) (λ e. absurd (omega (arith, g .owns q b))) (λ m. k .own q b));
+        held = λ i b. new-or-old i (λ w. w .finished ≡ false → Held i (after .process (w .process)))
+            (λ e f. of-process p (Held i) (λ o. (omega arith, sym e)) (λ n. absurd (n refl)))
+            (λ n f. of-process (st .row i .process) (Held i) (λ o. absurd (omega (arith, k .held i (omega arith) f .0, ap (λ (q : ℕ). st .process q .step) o, free))) (λ o. k .held i (omega arith) f));
+        latest = λ i b. new-or-old i (λ w. i ≤ after .process (w .process) .operation)
+            (λ e. of-process p (λ x. i ≤ x .operation) (λ o. omega arith) (λ n. absurd (n refl)))
+            (λ n. of-process (st .row i .process) (λ x. i ≤ x .operation) (λ o. omega arith) (λ o. k .latest i (omega arith)));
+        kinds = λ i b. new-or-old i (λ w. (w .kind ≡ 2 → ⊥) → w .kind ≡ 3) (λ e. kind-three-else adds) (λ n. k .kinds i (omega arith));
+        silent = λ i. new-or-old i (λ w. (w .kind ≡ 2 → w .finished ≡ false) → w .answer ≡ 0) (λ e n. refl) (λ n. k .silent i);
+        plain = λ i. new-or-old i (λ w. w .kind ≡ 2 → w .seconds ≡ 0) (λ e d. refl) (λ n. k .plain i);
+      }
+
+-- ---- what is listed has read the root or written its leaf
+
+listed-did : (h : ℕ) (es : List Entry) → Once es → (i : ℕ) → List·Memᴰ i (listed h es) → (did isRootRead i es ≡ true) ⊎ (did isLeafWrite i es ≡ true)
+unfolding listed
+listed-did h [] o i m = absurd (List·Memᴰ·not-nil m)
+listed-did h (e ∷ es) (more f o) i m =
+    ⊎-elim (λ n. ⊎-elim (λ d. inl (did-on isRootRead i e es d)) (λ d. inr (did-on isLeafWrite i e es d)) (listed-did h es o i n)) (go (isRootRead (e .access)) refl)
+    (List·Memᴰ·append-cases (listed h es) m)
+  where
+    go : (t : Bool) → isRootRead (e .access) ≡ t → List·Memᴰ i (placed h e es) → (did isRootRead i (e ∷ es) ≡ true) ⊎ (did isLeafWrite i (e ∷ es) ≡ true)
+    go true d n = inl (did-now isRootRead i e es d (List·Memᴰ·eq-of-singleton (subst (List·Memᴰ i) (placed-read h e es d) n)))
+    go false d n =
+        let u = mem-operations (keep (newly h e es (more f o)) (waiters es)) (subst (List·Memᴰ i) (placed-is h e es (more f o) d) n) in
+        let w = sym (did-leaf (u .0 .operation) es) ∙ written (waiter-writes es (u .0) (mem-keep _ (waiters es) (u .1) .0)) in
+        inr (did-on isLeafWrite i e es (subst (λ (j : ℕ). did isLeafWrite j es ≡ true) (u .2) w))
+
+-- ---- after every accepted recording
+
+abbrev Both : ℕ → State → Type 0
+Both h st = StepCount h st × Owned h st
+
+module _ (s : List ℕ) (st : State) (e : outcome s ≡ accepted st) where
+  both : Good (height s) st × Both (height s) st
+  both =
+      accepted-keeps Both (λ h. (count-initial h, owned-initial h)) (λ h p x y z. (count-step h p x y (z .0), owned-step h p x y (z .0) (z .1)))
+      (λ h p a d x g b f o z. (count-start h p a d x g b f o (z .0), owned-start h p a d x g b f o (z .1))) s st e
+
+  good : Good (height s) st
+  good = both .0
+
+  counted : StepCount (height s) st
+  counted = both .1 .0
+
+  owned : Owned (height s) st
+  owned = both .1 .1
+
+  -- an operation whose process starts again has finished
+  pub finished-again : (i j : ℕ) → i < j → j < st .operations → st .row i .process ≡ st .row j .process → st .row i .finished ≡ true
+  finished-again i j a b same = go (st .row i .finished) refl
+    where
+      go : (t : Bool) → st .row i .finished ≡ t → t ≡ true
+      go true f = refl
+      go false f = absurd (omega (arith, owned .held i (omega arith) f .1, owned .latest j b, ap (λ (q : ℕ). st .process q .operation) same))
+
+  pub no-answer : (i : ℕ) → (st .row i .kind ≡ 2 → st .row i .finished ≡ false) → st .row i .answer ≡ 0
+  no-answer = owned .silent
+
+  pub no-seconds : (i : ℕ) → st .row i .kind ≡ 2 → st .row i .seconds ≡ 0
+  no-seconds = owned .plain
+
+  -- an unfinished row by its process's record: a read has taken no step, an addition goes on
+  abbrev Unread : ℕ → Process → Type 0
+  Unread i x = (st .row i .kind ≡ kindOf (x .adds)) × (x .adds ≡ false → st .row i .steps ≡ 0) × (x .adds ≡ true → Going (x .step) (st .row i .steps) (st .row i .seconds))
+
+  going-row : (i : ℕ) → i < st .operations → st .row i .finished ≡ false → Unread i (st .process (st .row i .process))
+  going-row i b f =
+      let p : ℕ = st .row i .process in
+      let o = owned .held i b f in
+      subst (λ (j : ℕ). Unread j (st .process p)) (o .1) (counted .kinds p (o .0), counted .reading p (o .0), counted .adding p (o .0))
+
+  pub unread-steps : (i : ℕ) → i < st .operations → st .row i .kind ≡ 2 → st .row i .finished ≡ false → st .row i .steps ≡ 0
+  unread-steps i b d f = let u = going-row i b f in u .1 (kind-two _ (sym (u .0) ∙ d))
+
+  read-attempts : (i : ℕ) → st .row i .kind ≡ 2 → st .row i .steps ≤ 1 → Attempts (height s) (st .row i .steps) (st .row i .seconds)
+  read-attempts i d few = let z = owned .plain i d in (omega arith, omega arith, omega arith)
+
+  pub attempts : (i : ℕ) → i < st .operations → Attempts (height s) (st .row i .steps) (st .row i .seconds)
+  attempts i b = go (st .row i .finished) refl (eqb (st .row i .kind) 2) refl
+    where
+      addition : eqb (st .row i .kind) 2 ≡ false → st .row i .kind ≡ 3
+      addition d = owned .kinds i b (eqb-false (st .row i .kind) 2 d)
+
+      go : (t : Bool) → st .row i .finished ≡ t → (r : Bool) → eqb (st .row i .kind) 2 ≡ r → Attempts (height s) (st .row i .steps) (st .row i .seconds)
+      go true f true d = let k = eqb-true (st .row i .kind) 2 d in read-attempts i k (omega (arith, counted .read i f k))
+      go true f false d = let a = counted .added i f (addition d) in (a .1, omega (arith, a .0, a .1), omega (arith, a .0))
+      go false f true d = let k = eqb-true (st .row i .kind) 2 d in read-attempts i k (omega (arith, unread-steps i b k f))
+      go false f false d =
+          let p : ℕ = st .row i .process in
+          let u = going-row i b f in
+          let a = kind-three (st .process p .adds) (sym (u .0) ∙ addition d) in
+          going-attempts (height s) (st .process p .step) (st .row i .steps) (st .row i .seconds) (good .low) (omega (arith, good .range p, last-addition (height s) (st .process p .adds) a)) (u .2 a)
+
+  -- an unfinished read, or an addition that has not written its leaf, is not listed
+  pub early-unlisted : (i : ℕ) → i < st .operations → st .row i .finished ≡ false → st .row i .steps < 2 → List·Memᴰ i (listed (height s) (st .history)) → ⊥
+  early-unlisted i b f few m =
+      let p : ℕ = st .row i .process in
+      let o = owned .held i b f in
+      let never : (kind : Access → Bool) → did kind (st .process p .operation) (st .history) ≡ false → did kind i (st .history) ≡ true → ⊥ = λ kind n d. false-true (sym n ∙ ap (λ (j : ℕ). did kind j (st .history)) (o .1) ∙ d) in
+      ⊎-elim (never isRootRead (good .unread p (o .0)))
+      (never isLeafWrite (good .fresh p (o .0) (λ a. going-early (st .process p .step) (st .row i .steps) (st .row i .seconds) few (going-row i b f .2 a))))
+      (listed-did (height s) (st .history) (good .once) i m)
