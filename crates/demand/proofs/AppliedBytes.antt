@@ -5,16 +5,15 @@ use mathlib.Core.Path.{_≡_, refl, sym, ap, ap₂, _∙_}
 use mathlib.Core.Logic.{⊎-elim}
 use mathlib.Core.Bool.{Bool, true, false, cond, _&&_, _||_}
 use mathlib.Core.List.{List, [], _∷_, _++_, map, List·Memᴰ, List·Memᴰ·head, List·Memᴰ·tail, List·Memᴰ·append-cases, List·Memᴰ·eq-of-singleton, List·Memᴰ·not-nil}
-use lib.ListN.{length, getD, drop}
+use lib.ListN.{getD, drop}
 use lib.Dec.{eqb, leb, ltb}
 use borrow.Author.Tests.{eqb-true, eqb-false, eq-eqb, leb-true, ltb-true, ltb-false}
 use Rattle.sets.specs.Processes.{nobody, with, countBelow}
 use Rattle.cell.specs.Cell.{readOf, loadLinked, succeeds, storeConditional}
 use Rattle.recording.specs.Numbers.{fourBytes, numberAt}
 use Rattle.recording.specs.Record.{Answer, inTable, whole, eventAt, cutAt}
-use Rattle.recording.specs.declared.Event.the-variants.{Step, Read, Add}
 use Rattle.meaning.specs.Refusals.{firstOf}
-use Rattle.meaning.specs.Layout.{version, follows as followsOf, height, headRefusal, Records, end, broken, event, follow, recordsFrom, recordsOf}
+use Rattle.meaning.specs.Layout.{version, follows as followsOf, height, headRefusal, follow, recordsFrom, recordsOf}
 use Rattle.meaning.specs.Tree.{processes, leafOf, left, right, parent, ancestor, root}
 use Rattle.meaning.specs.Access.{attempt, climb, additionSteps, readSteps, isRootRead, isLeafWrite, isReadOf, isStoreAt, isSecondLink}
 use Rattle.meaning.specs.Steps.{upd, cellAt, withCell, withValue, idle, stepsOf, accessOf, plus, onward, passesBy, sawIt, sawLeft, sawRight, atStep, effect, within, nextRecord}
@@ -28,6 +27,7 @@ use Rattle.ledger.proofs.Kept.{mem-keep}
 use Rattle.counter.proofs.Overs.{and-both}
 use Rattle.demand.specs.ReadBack.{rowAt, operationsIn, counterIn, processIn, kindIn, finishedIn, stepsIn, answerIn, rankIn, secondsIn, withRank, byRank, listIn, startRow, startsOf, startIn, operationsFrom, operationsBy, ReadBack}
 use Rattle.demand.specs.AppliedBytes.{lettered, bytesOf, isRead, isFinished, startsAgain, column, isBefore, beforeIn, finishedBy, recordsBy, stepsBy, secondsBy, answerBy, above, rankBy, timesBy, stands, follows, documentedBefore, isSame, isHeld, changed, lastBytes, unnoticed, documentedUnnoticed}
+use Rattle.demand.proofs.Starts.{start-kinds}
 use Rattle.demand.proofs.ReadBack.{read-back}
 
 -- ---- what the clauses give, of every recording and report
@@ -39,17 +39,6 @@ column-same : (f g : ℕ → ℕ) (k : ℕ) → ((i : ℕ) → i < k → f i ≡
 unfolding column
 column-same f g zero e = refl
 column-same f g (suc k) e = ap₂ (λ (l : List ℕ) (n : ℕ). l ++ (n ∷ [])) (column-same f g k (λ i b. e i (omega arith))) (e k (omega arith))
-
--- "kind, 2 or 3"
-start-kinds : (rs : Records) (i : ℕ) → i < length (startsOf rs) → (getD (startsOf rs) i blank .kind ≡ 2 → ⊥) → getD (startsOf rs) i blank .kind ≡ 3
-unfolding startsOf startRow
-start-kinds end i b n = absurd (omega arith)
-start-kinds (broken at) i b n = absurd (omega arith)
-start-kinds (event at (Step p) rs) i b n = start-kinds rs i b n
-start-kinds (event at (Read p) rs) zero b n = absurd (n refl)
-start-kinds (event at (Read p) rs) (suc i) b n = start-kinds rs i (omega arith) n
-start-kinds (event at (Add p d) rs) zero b n = refl
-start-kinds (event at (Add p d) rs) (suc i) b n = start-kinds rs i (omega arith) n
 
 row-below : (k i : ℕ) → List·Memᴰ i (column (λ i. i) k) → i < k
 unfolding column

@@ -1,6 +1,6 @@
 -- Whose operation each row is: an unfinished one is its process's own, and the last that its process started. What a row has while it is
 -- no finished read, and how many second attempts go with how many steps.
-use Prim.Native.Nat.{ℕ, zero, suc, _+_, _-_, _*_, _/_, _%_, _^_, _≤_, _<_}
+use Prim.Native.Nat.{ℕ, _+_, _-_, _*_, _/_, _%_, _^_, _≤_, _<_}
 use native.Mathlib.Omega.{arith}
 use mathlib.Core.Path.{_≡_, refl, sym, ap, _∙_, subst}
 use mathlib.Core.Logic.{_⊎_, inl, inr, ⊎-elim}
@@ -26,43 +26,28 @@ use Rattle.ledger.proofs.Turns.{Turn, root, leaf, write, link, leftward, rightw
 use Rattle.ledger.proofs.Good.{Good, Stepping, accessBy, recordAfter, turns, goes, same-operation, by-stepper, stepped-row, root-read-ends, false-true}
 use Rattle.ledger.proofs.StepCount.{StepCount, Going, kind-two, kind-three, not-done, count-step, count-start, count-initial}
 use Rattle.engine.proofs.Accepted.{accepted-keeps}
+use Rattle.demand.proofs.Starts.{kind-else}
 
 -- a process's record that is busy with operation i
 abbrev Held : ℕ → Process → Type 0
 Held i x = (1 ≤ x .step) × (x .operation ≡ i)
 
-kind-three-else : (t : Bool) → (kindOf t ≡ 2 → ⊥) → kindOf t ≡ 3
-unfolding kindOf
-kind-three-else true n = refl
-kind-three-else false n = absurd (n refl)
-
 -- f second attempts of n steps, of height h
 abbrev pub Attempts : ℕ → ℕ → ℕ → Type 0
 Attempts h n f = (f ≤ h) × (8 * f ≤ n + 1) × (n ≤ 2 + 4 * h + 4 * f)
 
--- an addition under way
-going-attempts : (h s n f : ℕ) → 1 ≤ h → s ≤ 2 + 8 * h → Going s n f → Attempts h n f
+-- an addition under way: so many, and with fewer than two steps it has not made step 2
+going-attempts : (h s n f : ℕ) → 1 ≤ h → s ≤ 2 + 8 * h → Going s n f → Attempts h n f × (n < 2 → s ≤ 2)
 going-attempts h s n f low last g = go (leb 3 s) refl
   where
-    late : (t : Bool) → leb 5 ((s - 3) % 8) ≡ t → 3 ≤ s → n + 4 * cond t 1 0 ≡ 2 + 4 * ((s - 3) / 8) + 4 * f + (s - 3) % 8 → f ≤ (s - 3) / 8 + cond t 1 0 → Attempts h n f
-    late true e b x y = let v = leb-true 5 ((s - 3) % 8) e in (omega arith, omega arith, omega arith)
-    late false e b x y = let v = leb-false 5 ((s - 3) % 8) e in (omega arith, omega arith, omega arith)
+    late : (t : Bool) → leb 5 ((s - 3) % 8) ≡ t → 3 ≤ s → n + 4 * cond t 1 0 ≡ 2 + 4 * ((s - 3) / 8) + 4 * f + (s - 3) % 8 → f ≤ (s - 3) / 8 + cond t 1 0
+        → Attempts h n f × (n < 2 → s ≤ 2)
+    late true e b x y = let v = leb-true 5 ((s - 3) % 8) e in ((omega arith, omega arith, omega arith), λ few. omega arith)
+    late false e b x y = let v = leb-false 5 ((s - 3) % 8) e in ((omega arith, omega arith, omega arith), λ few. omega arith)
 
-    go : (t : Bool) → leb 3 s ≡ t → Attempts h n f
+    go : (t : Bool) → leb 3 s ≡ t → Attempts h n f × (n < 2 → s ≤ 2)
     go true e = let b = leb-true 3 s e in let q = g .late b in late (leb 5 ((s - 3) % 8)) refl b (q .0) (q .1)
-    go false e = let b = leb-false 3 s e in let q = g .early (omega arith) in (omega (arith, q .1), omega (arith, q .1), omega (arith, q .0))
-
--- one of fewer than two steps has not made step 2
-going-early : (s n f : ℕ) → n < 2 → Going s n f → s ≤ 2
-going-early s n f few g = go (leb 3 s) refl
-  where
-    late : (t : Bool) → leb 5 ((s - 3) % 8) ≡ t → n + 4 * cond t 1 0 ≡ 2 + 4 * ((s - 3) / 8) + 4 * f + (s - 3) % 8 → ⊥
-    late true e x = omega (arith, leb-true 5 ((s - 3) % 8) e)
-    late false e x = omega arith
-
-    go : (t : Bool) → leb 3 s ≡ t → s ≤ 2
-    go true e = absurd (late (leb 5 ((s - 3) % 8)) refl (g .late (leb-true 3 s e) .0))
-    go false e = omega (arith, leb-false 3 s e)
+    go false e = let b = leb-false 3 s e in let q = g .early (omega arith) in ((omega (arith, q .1), omega (arith, q .1), omega (arith, q .0)), λ few. omega arith)
 
 record Owned (h : ℕ) (st : State) : Type 0 where
   -- a busy process's row names it
@@ -71,7 +56,6 @@ record Owned (h : ℕ) (st : State) : Type 0 where
   held : (i : ℕ) → i < st .operations → st .row i .finished ≡ false → Held i (st .process (st .row i .process))
   -- no row is later than its process's operation
   latest : (i : ℕ) → i < st .operations → i ≤ st .process (st .row i .process) .operation
-  kinds : (i : ℕ) → i < st .operations → (st .row i .kind ≡ 2 → ⊥) → st .row i .kind ≡ 3
   -- no answer but a finished read's, and no second attempt of a read
   silent : (i : ℕ) → (st .row i .kind ≡ 2 → st .row i .finished ≡ false) → st .row i .answer ≡ 0
   plain : (i : ℕ) → st .row i .kind ≡ 2 → st .row i .seconds ≡ 0
@@ -83,7 +67,6 @@ owned-initial h =
       own = λ p b. absurd (omega arith);
       held = λ i b f. absurd (omega arith);
       latest = λ i b. absurd (omega arith);
-      kinds = λ i b n. absurd (omega arith);
       silent = λ i n. refl;
       plain = λ i k. refl;
     }
@@ -141,7 +124,6 @@ module _ (h p : ℕ) (st : State) (s : Stepping h p st) (c : StepCount h st) (k 
             (λ e f. of-row i (Held i) (λ o. (not-done (recordAfter h p st .step) f, same-operation h p st s ∙ sym e)) (λ o. absurd (o (named i e))))
             (λ n f. of-row i (Held i) (λ o. absurd (n (sym (k .held i b f .1) ∙ ap (λ (q : ℕ). st .process q .operation) o))) (λ o. k .held i b f));
         latest = λ i b. of-row i (λ x. i ≤ x .operation) (λ o. omega (arith, same-operation h p st s, k .latest i b, ap (λ (q : ℕ). st .process q .operation) o)) (λ o. k .latest i b);
-        kinds = λ i b. stepped-row h p st s i (λ w. (w .kind ≡ 2 → ⊥) → w .kind ≡ 3) (λ e. k .kinds (r .operation) (s .good .owns p (s .acts))) (λ n. k .kinds i b);
         silent = λ i. stepped-row h p st s i (λ w. (w .kind ≡ 2 → w .finished ≡ false) → w .answer ≡ 0) (λ e. silent-now (isRootRead (accessBy h p st)) refl) (λ n. k .silent i);
         plain = λ i. stepped-row h p st s i (λ w. w .kind ≡ 2 → w .seconds ≡ 0)
             (λ e d. omega (arith, k .plain (r .operation) d, ap {B = ℕ} (λ (t : Bool). cond t 1 0) (read-links-not h p st (turns h p st s) (is-read d)))) (λ n. k .plain i);
@@ -174,7 +156,6 @@ module _ (h p : ℕ) (adds : Bool) (delta : ℕ) (st : State) (g : Good h st) (i
         latest = λ i b. new-or-old i (λ w. i ≤ after .process (w .process) .operation)
             (λ e. of-process p (λ x. i ≤ x .operation) (λ o. omega arith) (λ n. absurd (n refl)))
             (λ n. of-process (st .row i .process) (λ x. i ≤ x .operation) (λ o. omega arith) (λ o. k .latest i (omega arith)));
-        kinds = λ i b. new-or-old i (λ w. (w .kind ≡ 2 → ⊥) → w .kind ≡ 3) (λ e. kind-three-else adds) (λ n. k .kinds i (omega arith));
         silent = λ i. new-or-old i (λ w. (w .kind ≡ 2 → w .finished ≡ false) → w .answer ≡ 0) (λ e n. refl) (λ n. k .silent i);
         plain = λ i. new-or-old i (λ w. w .kind ≡ 2 → w .seconds ≡ 0) (λ e d. refl) (λ n. k .plain i);
       }
@@ -242,6 +223,12 @@ module _ (s : List ℕ) (st : State) (e : outcome s ≡ accepted st) where
   pub unread-steps : (i : ℕ) → i < st .operations → st .row i .kind ≡ 2 → st .row i .finished ≡ false → st .row i .steps ≡ 0
   unread-steps i b d f = let u = going-row i b f in u .1 (kind-two _ (sym (u .0) ∙ d))
 
+  under-way : (i : ℕ) → i < st .operations → st .row i .finished ≡ false → st .process (st .row i .process) .adds ≡ true
+      → Attempts (height s) (st .row i .steps) (st .row i .seconds) × (st .row i .steps < 2 → st .process (st .row i .process) .step ≤ 2)
+  under-way i b f a =
+      let p : ℕ = st .row i .process in
+      going-attempts (height s) (st .process p .step) (st .row i .steps) (st .row i .seconds) (good .low) (omega (arith, good .range p, last-addition (height s) (st .process p .adds) a)) (going-row i b f .2 a)
+
   read-attempts : (i : ℕ) → st .row i .kind ≡ 2 → st .row i .steps ≤ 1 → Attempts (height s) (st .row i .steps) (st .row i .seconds)
   read-attempts i d few = let z = owned .plain i d in (omega arith, omega arith, omega arith)
 
@@ -249,17 +236,14 @@ module _ (s : List ℕ) (st : State) (e : outcome s ≡ accepted st) where
   attempts i b = go (st .row i .finished) refl (eqb (st .row i .kind) 2) refl
     where
       addition : eqb (st .row i .kind) 2 ≡ false → st .row i .kind ≡ 3
-      addition d = owned .kinds i b (eqb-false (st .row i .kind) 2 d)
+      addition d = kind-else s st e i b (eqb-false (st .row i .kind) 2 d)
 
       go : (t : Bool) → st .row i .finished ≡ t → (r : Bool) → eqb (st .row i .kind) 2 ≡ r → Attempts (height s) (st .row i .steps) (st .row i .seconds)
       go true f true d = let k = eqb-true (st .row i .kind) 2 d in read-attempts i k (omega (arith, counted .read i f k))
       go true f false d = let a = counted .added i f (addition d) in (a .1, omega (arith, a .0, a .1), omega (arith, a .0))
       go false f true d = let k = eqb-true (st .row i .kind) 2 d in read-attempts i k (omega (arith, unread-steps i b k f))
       go false f false d =
-          let p : ℕ = st .row i .process in
-          let u = going-row i b f in
-          let a = kind-three (st .process p .adds) (sym (u .0) ∙ addition d) in
-          going-attempts (height s) (st .process p .step) (st .row i .steps) (st .row i .seconds) (good .low) (omega (arith, good .range p, last-addition (height s) (st .process p .adds) a)) (u .2 a)
+          under-way i b f (kind-three _ (sym (going-row i b f .0) ∙ addition d)) .0
 
   -- an unfinished read, or an addition that has not written its leaf, is not listed
   pub early-unlisted : (i : ℕ) → i < st .operations → st .row i .finished ≡ false → st .row i .steps < 2 → List·Memᴰ i (listed (height s) (st .history)) → ⊥
@@ -268,5 +252,5 @@ module _ (s : List ℕ) (st : State) (e : outcome s ≡ accepted st) where
       let o = owned .held i b f in
       let never : (kind : Access → Bool) → did kind (st .process p .operation) (st .history) ≡ false → did kind i (st .history) ≡ true → ⊥ = λ kind n d. false-true (sym n ∙ ap (λ (j : ℕ). did kind j (st .history)) (o .1) ∙ d) in
       ⊎-elim (never isRootRead (good .unread p (o .0)))
-      (never isLeafWrite (good .fresh p (o .0) (λ a. going-early (st .process p .step) (st .row i .steps) (st .row i .seconds) few (going-row i b f .2 a))))
+      (never isLeafWrite (good .fresh p (o .0) (λ a. under-way i b f a .1 few)))
       (listed-did (height s) (st .history) (good .once) i m)

@@ -87,3 +87,20 @@ pub start-in : (s : List ℕ) (st : State) → outcome s ≡ accepted st → (i 
     → startIn s i ≡ startRow (st .row i .process) (st .row i .kind) (st .row i .delta)
 unfolding startIn
 start-in s st e i b = ap (λ (l : List Row). getD l i blank) (starts-in s st e) ∙ below-at (st .row) (st .operations) i b
+
+-- "kind, 2 or 3"
+pub start-kinds : (rs : Records) (i : ℕ) → i < length (startsOf rs) → (getD (startsOf rs) i blank .kind ≡ 2 → ⊥) → getD (startsOf rs) i blank .kind ≡ 3
+unfolding startsOf startRow
+start-kinds end i b n = absurd (omega arith)
+start-kinds (broken at) i b n = absurd (omega arith)
+start-kinds (event at (Step p) rs) i b n = start-kinds rs i b n
+start-kinds (event at (Read p) rs) zero b n = absurd (n refl)
+start-kinds (event at (Read p) rs) (suc i) b n = start-kinds rs i (omega arith) n
+start-kinds (event at (Add p d) rs) zero b n = refl
+start-kinds (event at (Add p d) rs) (suc i) b n = start-kinds rs i (omega arith) n
+
+pub kind-else : (s : List ℕ) (st : State) → outcome s ≡ accepted st → (i : ℕ) → i < st .operations → (st .row i .kind ≡ 2 → ⊥) → st .row i .kind ≡ 3
+unfolding startIn startRow
+kind-else s st e i b n =
+    let k = ap (λ (w : Row). w .kind) (start-in s st e i b) in
+    sym k ∙ start-kinds (recordsOf s) i (omega (arith, starts-many s st e)) (λ z. n (sym k ∙ z))

@@ -1,5 +1,5 @@
--- Demand 3 as someone can try it who has the recording s and the report's bytes b alone, and runs no tree: every column is held to the
--- recording, the contention not yet; the list is made of the rows' ranks, and the deltas are those of the start records.
+-- Demand 3 as someone can try it who has the recording s and the report's bytes b alone, and runs no tree: every column but the contention
+-- is held to the recording, the list is made of the rows' ranks, and the deltas are those of the start records.
 use Prim.Native.Nat.{ℕ, zero, suc, _+_, _-_, _*_, _/_, _≤_, _<_}
 use mathlib.Core.Path.{_≡_}
 use mathlib.Core.Bool.{false, cond}
@@ -128,7 +128,8 @@ pub record ReadBack (s b : List ℕ) : Type 0 where
   pub read-steps : (i : ℕ) → i < operationsIn b → kindIn b i ≡ 2 → (stepsIn b i ≡ finishedIn b i) × (secondsIn b i ≡ 0)
   -- "A finished addition has 2 + 4h + 4f, where f is its number of second attempts, 0 to h."
   pub addition-steps : (i : ℕ) → i < operationsIn b → finishedIn b i ≡ 1 → kindIn b i ≡ 3 → stepsIn b i ≡ 2 + 4 * height s + 4 * secondsIn b i
-  -- f finished or not: two steps at the leaf, at each node a first attempt, and the second attempt f not begun before step 8f − 1
+  -- f finished or not: "0 to h"; its last LL is step 8f − 1 or later, after two at the leaf, eight at each node before and four at this; and
+  -- no step is beside the leaf's two and the four of each attempt
   pub seconds : (i : ℕ) → i < operationsIn b → (secondsIn b i ≤ height s) × (8 * secondsIn b i ≤ stepsIn b i + 1) × (stepsIn b i ≤ 2 + 4 * height s + 4 * secondsIn b i)
   -- "No addition has taken 2 + 8h steps and is still unfinished"
   pub bound : (i : ℕ) → i < operationsIn b → finishedIn b i ≡ 0 → stepsIn b i < 2 + 8 * height s
