@@ -17,15 +17,27 @@ need() {
 }
 
 library=target/staticlib/libilvrotse.a
+replay=target/bin/replay
 
-# The library, built anew where a source is newer than it.
-need_library() {
-    if [ ! -f "$library" ] || [ -n "$(find crates crates.txt -newer "$library" -print -quit)" ]; then
-        need rt
-        rt staticlib ilvrotse || fail "rt staticlib ilvrotse failed"
-    fi
-    [ -f "$library" ] || fail "$library is missing"
+# need_built OUT WORDS..: OUT, built anew by `rt WORDS` where a source is newer. It is given the time at which the build began, so that a source
+# changed meanwhile is newer still.
+need_built() {
+    built=$1
+    shift
+    [ ! -f "$built" ] || [ -n "$(find crates crates.txt -newer "$built" -print -quit)" ] || return 0
+    need rt
+    echo "proving and building $built: a few minutes where nothing is proved yet" >&2
+    mkdir -p target
+    : >target/begun
+    rm -f target/failed
+    { rt "$@" 2>&1 || : >target/failed; } | tee target/said | sed -un '/^rt: /p' >&2
+    [ ! -f target/failed ] || { cat target/said >&2; fail "rt $* failed"; }
+    [ -f "$built" ] || fail "rt $* does not build $built"
+    touch -r target/begun "$built"
 }
+
+need_library() { need_built "$library" staticlib ilvrotse; }
+need_replay() { need_built "$replay" check replay; }
 
 processor=$(uname -m)
 emulated=no
