@@ -1,4 +1,4 @@
-# Read by the scripts of tests/, bench/ and tools/, from the repository's root: builds and runs programs that link the proved library.
+# Read by the scripts of tests/, bench/, fuzz/ and tools/, from the repository's root: builds and runs programs that link the proved library.
 #
 # The library and the printing program are for x86-64 Linux. On another processor the C programs over the library are compiled and linked
 # by the kit's own compiler, with this machine's C headers, and run under the kit's emulator, without sanitizers.
