@@ -7,13 +7,13 @@ cd "$(dirname "$0")/.."
 
 need rustc cc
 need_library
-[ -f target/bin/replay ] || fail "target/bin/replay is missing"
+need_replay
 
 build=target/tests
 mkdir -p "$build"
 c_program "$build/caller-program" tests/compare/caller.c "$library" -O2
 launcher "$build/caller" "$build/caller-program"
-launcher "$build/replay" target/bin/replay
+launcher "$build/replay" "$replay"
 
 rust="rustc --edition 2021 -C opt-level=3 -D warnings"
 $rust --crate-type rlib --crate-name second -o "$build/libsecond.rlib" tests/second/lib.rs

@@ -6,7 +6,7 @@ cd "$(dirname "$0")/.."
 . tests/lib/machine.sh
 
 need gcc cmp head
-[ -f target/bin/replay ] || fail "target/bin/replay is missing"
+need_replay
 build=target/tests/example
 rm -rf "$build"
 mkdir -p "$build"
@@ -48,7 +48,7 @@ if [ "$emulated" = no ]; then
     gcc $flags -o "$build/plain" examples/print_report.c -L"$prefix/lib" -lilvrotse
     programs="$programs $build/plain"
 fi
-launcher "$build/replay" target/bin/replay
+launcher "$build/replay" "$replay"
 
 # Recordings that are refused: empty, cut short, a byte changed, one that is too long.
 : >"$build/empty.rec"

@@ -6,13 +6,13 @@ cd "$(dirname "$0")/.." || exit 2
 . tests/lib/machine.sh
 need od awk
 need_library
-[ -f target/bin/replay ] || fail "target/bin/replay is missing"
+need_replay
 build=target/tests/format
 rm -rf "$build"
 mkdir -p "$build"
 c_program "$build/caller-program" tests/compare/caller.c "$library" -O2
 launcher "$build/caller" "$build/caller-program"
-launcher "$build/replay" target/bin/replay
+launcher "$build/replay" "$replay"
 
 bad=0
 seen=0

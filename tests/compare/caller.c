@@ -1,43 +1,19 @@
-/* Calls the library for the comparing program, which need not be a program for the same processor. It is told over standard input what to
- * call, and answers over standard output. Numbers are of 4 bytes, little-endian.
- *
- *   LEND len 0 0, len bytes                   the recording of the calls that follow
- *   LEND_NULL 0 0 0                           an empty recording, lent as NULL
- *   GIVE_BACK 0 0 0                           answers the recording's bytes as they are now
- *   CHECK 0 0 0                               answers number, place
- *   REPORT front room back, the bytes of      answers number, place, and the bytes of all three
- *     all three, the buffer in the middle
- *   REPORT_NULL 0 0 0                         the same with an empty buffer, lent as NULL; answers number, place
- *
- * The recording and the buffer with what is around it each end where an inaccessible page begins, so that an access beyond that end stops
- * this program. */
+/* Calls the library for the comparing program, which need not be a program for the same processor; caller.h has how they speak. The recording
+ * and the buffer with what is around it each end at an inaccessible page. */
 #define _DEFAULT_SOURCE /* for MAP_ANONYMOUS */
 
+#include "caller.h"
+#include "guarded.h"
 #include "ilvrotse.h"
 
 #include <stdlib.h>
 #include <string.h>
-#include <sys/mman.h>
 #include <unistd.h>
-
-enum { LEND, LEND_NULL, GIVE_BACK, CHECK, REPORT, REPORT_NULL };
-
-#define LARGEST (1u << 20)
-#define PAGE 65536u /* a multiple of every page size in use */
 
 static void stop(int unless)
 {
     if (!unless)
         _exit(3);
-}
-
-/* The end of `LARGEST` bytes with an inaccessible page behind them. */
-static uint8_t *end_of_memory(void)
-{
-    uint8_t *memory = mmap(NULL, LARGEST + PAGE, PROT_READ | PROT_WRITE, MAP_PRIVATE | MAP_ANONYMOUS, -1, 0);
-    stop(memory != MAP_FAILED);
-    stop(mprotect(memory + LARGEST, PAGE, PROT_NONE) == 0);
-    return memory + LARGEST;
 }
 
 /* Whether there were any bytes at all; part of them is an error. */
@@ -67,12 +43,11 @@ static void give(const void *from, size_t len)
 
 int main(void)
 {
-    uint8_t *rec_end = end_of_memory();
-    uint8_t *out_end = end_of_memory();
-    uint8_t *answer_end = end_of_memory();
+    uint8_t *rec_end = guarded_end(), *out_end = guarded_end(), *answer_end = guarded_end();
     const uint8_t *rec = NULL;
     size_t len = 0;
     uint32_t told[4];
+    stop(rec_end != NULL && out_end != NULL && answer_end != NULL);
     while (take(told, sizeof told)) {
         ilvrotse_answer answer = {0, 0};
         size_t around = 0;

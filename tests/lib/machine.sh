@@ -1,4 +1,4 @@
-# Read by the scripts of tests/, bench/ and tools/, from the repository's root: builds and runs programs that link the proved library.
+# Read by the scripts of tests/, bench/, fuzz/ and tools/, from the repository's root: builds and runs programs that link the proved library.
 #
 # The library and the printing program are for x86-64 Linux. On another processor the C programs over the library are compiled and linked
 # by the kit's own compiler, with this machine's C headers, and run under the kit's emulator, without sanitizers.
@@ -17,15 +17,27 @@ need() {
 }
 
 library=target/staticlib/libilvrotse.a
+replay=target/bin/replay
 
-# The library, built anew where a source is newer than it.
-need_library() {
-    if [ ! -f "$library" ] || [ -n "$(find crates crates.txt -newer "$library" -print -quit)" ]; then
-        need rt
-        rt staticlib ilvrotse || fail "rt staticlib ilvrotse failed"
-    fi
-    [ -f "$library" ] || fail "$library is missing"
+# need_built OUT WORDS..: OUT, built anew by `rt WORDS` where a source is newer. It is given the time at which the build began, so that a source
+# changed meanwhile is newer still.
+need_built() {
+    built=$1
+    shift
+    [ ! -f "$built" ] || [ -n "$(find crates crates.txt -newer "$built" -print -quit)" ] || return 0
+    need rt
+    echo "proving and building $built: a few minutes where nothing is proved yet" >&2
+    mkdir -p target
+    : >target/begun
+    rm -f target/failed
+    { rt "$@" 2>&1 || : >target/failed; } | tee target/said | sed -un '/^rt: /p' >&2
+    [ ! -f target/failed ] || { cat target/said >&2; fail "rt $* failed"; }
+    [ -f "$built" ] || fail "rt $* does not build $built"
+    touch -r target/begun "$built"
 }
+
+need_library() { need_built "$library" staticlib ilvrotse; }
+need_replay() { need_built "$replay" check replay; }
 
 processor=$(uname -m)
 emulated=no

@@ -1,0 +1,16 @@
+/* What the caller of this folder is told over its standard input, and what it answers over its standard output. Numbers are of 4 bytes,
+ * little-endian.
+ *
+ *   LEND len 0 0, len bytes                   the recording of the calls that follow
+ *   LEND_NULL 0 0 0                           an empty recording, lent as NULL
+ *   GIVE_BACK 0 0 0                           answers the recording's bytes as they are now
+ *   CHECK 0 0 0                               answers number, place
+ *   REPORT front room back, the bytes of      answers number, place, and the bytes of all three
+ *     all three, the buffer in the middle
+ *   REPORT_NULL 0 0 0                         the same with an empty buffer, lent as NULL; answers number, place */
+#ifndef CALLER_H
+#define CALLER_H
+
+enum { LEND, LEND_NULL, GIVE_BACK, CHECK, REPORT, REPORT_NULL };
+
+#endif
