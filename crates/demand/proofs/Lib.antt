@@ -1,3 +1,8 @@
+pub mod First
+pub mod OneOrder
+pub mod TakesIn
+pub mod InOrder
+pub mod OneList
 pub mod Holds
 pub mod Applied
 pub mod ByRank
