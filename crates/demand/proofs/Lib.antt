@@ -4,6 +4,7 @@ pub mod TakesIn
 pub mod InOrder
 pub mod OneList
 pub mod Holds
+pub mod Columns
 pub mod Applied
 pub mod ByRank
 pub mod Deltas

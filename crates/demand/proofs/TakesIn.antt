@@ -14,7 +14,7 @@ use Rattle.taken.proofs.Agree.{Before, before-read, in-before}
 use Rattle.ledger.proofs.Did.{did}
 use Rattle.ledger.proofs.Good.{false-true}
 use Rattle.counter.proofs.Overs.{and-both}
-use Rattle.demand.specs.InOrder.{hasRead}
+use Rattle.demand.specs.InOrder.{isReadBy, hasRead}
 
 -- ---- what is so stays so
 
@@ -26,7 +26,7 @@ or-left : (a b : Bool) → a ≡ true → (a || b) ≡ true
 or-left a b e = rw e
 
 pub has-read : (i : ℕ) (es : List Entry) → hasRead i es ≡ did isRootRead i es
-unfolding did hasRead
+unfolding did hasRead isReadBy
 has-read i [] = refl
 has-read i (e ∷ es) = ap (λ (t : Bool). t || (isRootRead (e .access) && eqb i (e .operation))) (has-read i es)
 

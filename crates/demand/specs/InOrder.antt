@@ -17,10 +17,20 @@ unfoldable pub firstAfter : (List Entry → Bool) → List Entry → ℕ
 firstAfter so [] = 0
 firstAfter so (e ∷ es) = cond (so es) (firstAfter so es) (length es)
 
+-- the step of read i; an SC at node 1 that succeeded; the leaf write of addition i
+unfoldable pub isReadBy : ℕ → Entry → Bool
+isReadBy i e = isRootRead (e .access) && eqb i (e .operation)
+
+unfoldable pub isRootStore : Entry → Bool
+isRootStore e = isStoreAt root (e .access) && e .stored
+
+unfoldable pub isWriteBy : ℕ → Entry → Bool
+isWriteBy i e = isLeafWrite (e .access) && eqb i (e .operation)
+
 -- whether read i has taken "its one step"
 unfoldable pub hasRead : ℕ → List Entry → Bool
 hasRead i [] = false
-hasRead i (e ∷ es) = hasRead i es || (isRootRead (e .access) && eqb i (e .operation))
+hasRead i (e ∷ es) = hasRead i es || isReadBy i e
 
 -- whether i, as an addition of its row's process, is in node 1
 unfoldable pub isTakenIn : ℕ → (ℕ → Row) → ℕ → List Entry → Bool
@@ -45,16 +55,6 @@ writeOf st i = firstAfter (inLeaf i) (st .history)
 unfoldable pub isAt : (Entry → Bool) → ℕ → List Entry → Bool
 isAt such n [] = false
 isAt such n (e ∷ es) = cond (eqb n (length es)) (such e) (isAt such n es)
-
--- the step of read i; an SC at node 1 that succeeded; the leaf write of addition i
-unfoldable pub isReadBy : ℕ → Entry → Bool
-isReadBy i e = isRootRead (e .access) && eqb i (e .operation)
-
-unfoldable pub isRootStore : Entry → Bool
-isRootStore e = isStoreAt root (e .access) && e .stored
-
-unfoldable pub isWriteBy : ℕ → Entry → Bool
-isWriteBy i e = isLeafWrite (e .access) && eqb i (e .operation)
 
 -- these are the records by whose numbers the list is ordered
 pub record Places (h : ℕ) (st : State) : Type 0 where
