@@ -62,7 +62,7 @@ module _ (h : ℕ) (st : State) (d : Demand3 h st) where
       c .earlier i j (w .0) (w .1) (ltb-true (placeOf h st i) (placeOf h st j) (v .1))
 
   tie-is : (n : List ℕ) → ListOf h st n → (i j : ℕ) → isTie h st i j ≡ true → positionOf i n < positionOf j n
-  unfolding isTie
+  unfolding isTie placeOf writeOf
   tie-is n c i j e =
       let v = and-both (isListedOf 3 h st i && isListedOf 3 h st j && eqb (placeOf h st i) (placeOf h st j)) _ e in
       let w = and-both (isListedOf 3 h st i && isListedOf 3 h st j) _ (v .0) in
@@ -89,7 +89,7 @@ module _ (h : ℕ) (st : State) (d : Demand3 h st) where
   over-is i j e =
       let v = and-both (st .row i .finished && ltb (st .row i .ended) (st .row j .started)) _ e in
       let w = and-both (st .row i .finished) _ (v .0) in
-      d .order i j (w .0) (ltb-true (st .row i .ended) (st .row j .started) (w .1)) (leb-true 1 (rank h (st .history) j) (v .1))
+      d .order i j (w .0) (omega (arith, ltb-true (st .row i .ended) (st .row j .started) (w .1))) (leb-true 1 (rank h (st .history) j) (v .1))
 
   pub standing-same : standingSeen h st ≡ standingGiven h st
   unfolding standingSeen standingGiven
@@ -173,7 +173,7 @@ module _ (h : ℕ) (st : State) (d : Demand3 h st) where
       or-true false = refl
 
   pub meets-is : (n : List ℕ) → meets h st n ≡ true → ListOf h st n
-  unfolding meets isBefore
+  unfolding meets isBefore placeOf writeOf
   meets-is n e =
       record {
         who = λ i. who i (ltb i (st .operations)) refl;

@@ -60,10 +60,10 @@ demand-3 s st e =
       unfinished = λ i f. times-once i (listed (height s) (st .history)) (c .told .apart);
       reads = λ i k f. times-not i (listed (height s) (st .history)) (λ m. false-true (sym f ∙ c .told .reads i m k));
       strangers = λ i b. times-not i (listed (height s) (st .history)) (λ m. omega (arith, c .told .known i m));
-      order = λ i j f b l. c .told .order i j f b (⊎-elim (λ z. absurd (omega arith)) (λ m. m) (found j (listed (height s) (st .history))));
+      order = λ i j f b l. c .told .order i j f (omega (arith, b)) (⊎-elim (λ z. absurd (omega arith)) (λ m. m) (found j (listed (height s) (st .history))));
       read-steps = c .counted .read;
       addition-steps = c .counted .added;
-      bound = c .counted .short;
+      bound = λ i f. omega (arith, c .counted .short i f);
       idles = λ p. accepted-alone s st e p (2 + 8 * height s) (λ b. omega arith) .0;
     }
   where

@@ -112,7 +112,7 @@ module _ (h : ℕ) (low : 1 ≤ h) (row : ℕ → Row) where
   as-read i es k = rw (eq-eqb (row i .kind) 2 k) (has-read i es)
 
   pub as-addition : (i : ℕ) (es : List Entry) → (row i .kind ≡ 2 → ⊥) → isPlaced h row i es ≡ isTakenIn h row i es
-  unfolding isPlaced
+  unfolding isPlaced isTakenIn
   as-addition i es k = rw (ne-eqb (row i .kind) 2 k)
 
   pub two-or-not : (i : ℕ) (P : Type 0) → (row i .kind ≡ 2 → P) → ((row i .kind ≡ 2 → ⊥) → P) → P

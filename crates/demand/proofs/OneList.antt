@@ -21,12 +21,19 @@ use Rattle.counter.proofs.Overs.{and-both, top}
 use Rattle.demand.specs.InOrder.{isTakenIn, isListed, isPlaced, placeOf, writeOf, isReadBy, isRootStore, isWriteBy, Places, ListOf}
 use Rattle.demand.proofs.First.{Turned, turned, turned-at, Together, together}
 use Rattle.demand.proofs.OneOrder.{mem-times, same-order}
-use Rattle.demand.proofs.TakesIn.{or-cases, node-leaf, TakesIn, takes-in}
+use Rattle.demand.proofs.TakesIn.{or-cases, or-left, node-leaf, TakesIn, takes-in}
 use Rattle.demand.proofs.InOrder.{Books, as-read, as-addition, two-or-not, at-first, stands, lists, listed-in-order}
 
 -- the entry by which an operation has first made an access is of that operation
 did-turn : (kind : Access → Bool) (i : ℕ) (e : Entry) (es : List Entry) → did kind i es ≡ false → did kind i (e ∷ es) ≡ true → (kind (e .access) ≡ true) × (i ≡ e .operation)
 did-turn kind i e es n d = ⊎-elim (λ r. absurd (false-true (sym n ∙ r))) (λ r. r) (did-cases kind i e es d)
+
+both-are : (a b : Bool) → a ≡ true → b ≡ true → (a && b) ≡ true
+both-are a b d e = rw (d, e)
+
+or-right : (a b : Bool) → b ≡ true → (a || b) ≡ true
+or-right true b d = refl
+or-right false b d = d
 
 module _ (h : ℕ) (st : State) (g : Good h st) (t : Told h st) (k : Whose h st) where
   abbrev es : List Entry
@@ -44,7 +51,7 @@ module _ (h : ℕ) (st : State) (g : Good h st) (t : Told h st) (k : Whose h st)
   -- ---- who
 
   is-listed : (i : ℕ) → isListed h st i ≡ true → List·Memᴰ i (listed h es)
-  unfolding isListed
+  unfolding isListed isTakenIn
   is-listed i d = ⊎-elim reads (λ a. adds (a .1)) (or-cases (eqb (st .row i .kind) 2 && st .row i .finished) _ d)
     where
       reads : (eqb (st .row i .kind) 2 && st .row i .finished) ≡ true → List·Memᴰ i (listed h es)
@@ -67,14 +74,10 @@ module _ (h : ℕ) (st : State) (g : Good h st) (t : Told h st) (k : Whose h st)
   not-two a b = omega arith
 
   listed-is : (i : ℕ) → List·Memᴰ i (listed h es) → isListed h st i ≡ true
-  unfolding isListed
+  unfolding isListed isTakenIn
   listed-is i m =
-      two-or-not h (g .low) (st .row) i _ (λ a. rw (eq-eqb (st .row i .kind) 2 a, t .reads i m a))
-      (λ a. let b = is-addition i m a in rw (eq-eqb (st .row i .kind) 3 (b .2), b .0) (or-true (eqb (st .row i .kind) 2 && st .row i .finished)))
-    where
-      or-true : (a : Bool) → (a || true) ≡ true
-      or-true true = refl
-      or-true false = refl
+      two-or-not h (g .low) (st .row) i _ (λ a. or-left (eqb (st .row i .kind) 2 && st .row i .finished) _ (both-are _ _ (eq-eqb (st .row i .kind) 2 a) (t .reads i m a)))
+      (λ a. let b = is-addition i m a in or-right (eqb (st .row i .kind) 2 && st .row i .finished) _ (both-are _ _ (eq-eqb (st .row i .kind) 3 (b .2)) (b .0)))
 
   times-listed : (i : ℕ) → timesIn i (listed h es) ≡ cond (isListed h st i) 1 0
   times-listed i = go (isListed h st i) refl
@@ -158,9 +161,6 @@ module _ (h : ℕ) (st : State) (g : Good h st) (t : Told h st) (k : Whose h st)
 
   -- ---- the records
 
-  both-are : (a b : Bool) → a ≡ true → b ≡ true → (a && b) ≡ true
-  both-are a b d e = rw (d, e)
-
   pub places : Places h st
   unfolding placeOf writeOf isReadBy isRootStore isWriteBy root
   places =
@@ -192,6 +192,7 @@ module _ (h : ℕ) (st : State) (g : Good h st) (t : Told h st) (k : Whose h st)
       go false d = absurd (omega (arith, mem-times i l m, c .who i, ap {B = ℕ} (λ b. cond b 1 0) d))
 
   stands-first : {l : List ℕ} → ListOf h st l → (i j : ℕ) → isListed h st i ≡ true → isListed h st j ≡ true → Earlier i j → positionOf i l < positionOf j l
+  unfolding placeOf writeOf
   stands-first c i j a b = ⊎-elim (c .earlier i j a b) (λ e. c .ties i j a b (e .1) (e .2) (e .0) (e .3))
 
   pub list-one : (l m : List ℕ) → ListOf h st l → ListOf h st m → l ≡ m

@@ -22,7 +22,7 @@ pub or-cases : (a b : Bool) → (a || b) ≡ true → (a ≡ true) ⊎ ((a ≡ f
 or-cases true b e = inl refl
 or-cases false b e = inr (refl, e)
 
-or-left : (a b : Bool) → a ≡ true → (a || b) ≡ true
+pub or-left : (a b : Bool) → a ≡ true → (a || b) ≡ true
 or-left a b e = rw e
 
 pub has-read : (i : ℕ) (es : List Entry) → hasRead i es ≡ did isRootRead i es
