@@ -85,6 +85,28 @@ module _ (P : Entry → Bool) where
       in-order passing passes inLeaf Once (λ es i j. ⊥) refl passing-more once-less (λ i. refl) (λ es o. passing-in es) passes-new (λ e es o i j m n t. t)
       (λ e es o i j m n t. absurd t) es o i j m n (inl b)
 
+-- ---- whether an operation has its place
+
+pub two-or-not : (k : ℕ) (P : Type 0) → (k ≡ 2 → P) → ((k ≡ 2 → ⊥) → P) → P
+two-or-not k P two other = go (eqb k 2) refl
+  where
+    go : (t : Bool) → eqb k 2 ≡ t → P
+    go true e = two (eqb-true k 2 e)
+    go false e = other (eqb-false k 2 e)
+
+module _ (h : ℕ) (row : ℕ → Row) (i : ℕ) where
+  pub as-read : (es : List Entry) → row i .kind ≡ 2 → isPlaced h row i es ≡ did isRootRead i es
+  unfolding isPlaced
+  as-read es k = rw (eq-eqb (row i .kind) 2 k) (has-read i es)
+
+  pub as-addition : (es : List Entry) → (row i .kind ≡ 2 → ⊥) → isPlaced h row i es ≡ isTakenIn h row i es
+  unfolding isPlaced isTakenIn
+  as-addition es k = rw (ne-eqb (row i .kind) 2 k)
+
+  pub at-first : isPlaced h row i [] ≡ false
+  unfolding did isTakenIn
+  at-first = two-or-not (row i .kind) _ (λ k. as-read [] k) (λ k. as-addition [] k ∙ in-nowhere h _ i)
+
 -- ---- the list
 
 -- what ties the history to the rows: who has read node 1 is a read, who has written is an addition of its row's process
@@ -105,32 +127,11 @@ module _ (h : ℕ) (low : 1 ≤ h) (row : ℕ → Row) where
         writers = λ w m. b .writers w (Memᴰ·append-left _ m);
       }
 
-  -- ---- whether an operation has its place
-
-  pub as-read : (i : ℕ) (es : List Entry) → row i .kind ≡ 2 → isPlaced h row i es ≡ did isRootRead i es
-  unfolding isPlaced
-  as-read i es k = rw (eq-eqb (row i .kind) 2 k) (has-read i es)
-
-  pub as-addition : (i : ℕ) (es : List Entry) → (row i .kind ≡ 2 → ⊥) → isPlaced h row i es ≡ isTakenIn h row i es
-  unfolding isPlaced isTakenIn
-  as-addition i es k = rw (ne-eqb (row i .kind) 2 k)
-
-  pub two-or-not : (i : ℕ) (P : Type 0) → (row i .kind ≡ 2 → P) → ((row i .kind ≡ 2 → ⊥) → P) → P
-  two-or-not i P two other = go (eqb (row i .kind) 2) refl
-    where
-      go : (t : Bool) → eqb (row i .kind) 2 ≡ t → P
-      go true e = two (eqb-true (row i .kind) 2 e)
-      go false e = other (eqb-false (row i .kind) 2 e)
-
-  pub at-first : (i : ℕ) → isPlaced h row i [] ≡ false
-  unfolding did isTakenIn
-  at-first i = two-or-not i (isPlaced h row i [] ≡ false) (λ k. as-read i [] k) (λ k. as-addition i [] k ∙ in-nowhere h _ i)
-
   placed-on : (i : ℕ) (e : Entry) (es : List Entry) → isPlaced h row i es ≡ true → isPlaced h row i (e ∷ es) ≡ true
   unfolding isTakenIn
   placed-on i e es d =
-      two-or-not i (isPlaced h row i (e ∷ es) ≡ true) (λ k. as-read i (e ∷ es) k ∙ did-on isRootRead i e es (sym (as-read i es k) ∙ d))
-      (λ k. as-addition i (e ∷ es) k ∙ node-on h _ i e es (sym (as-addition i es k) ∙ d))
+      two-or-not (row i .kind) (isPlaced h row i (e ∷ es) ≡ true) (λ k. as-read h row i (e ∷ es) k ∙ did-on isRootRead i e es (sym (as-read h row i es k) ∙ d))
+      (λ k. as-addition h row i (e ∷ es) k ∙ node-on h _ i e es (sym (as-addition h row i es k) ∙ d))
 
   -- ---- what an entry adds
 
@@ -156,13 +157,13 @@ module _ (h : ℕ) (low : 1 ≤ h) (row : ℕ → Row) where
       go : (t : Bool) → isRootRead (e .access) ≡ t → isPlaced h row i (e ∷ es) ≡ true
       go true d =
           let r = did-now isRootRead i e es d (List·Memᴰ·eq-of-singleton (subst (List·Memᴰ i) (placed-read h e es d) m)) in
-          as-read i (e ∷ es) (b .readers i r) ∙ r
+          as-read h row i (e ∷ es) (b .readers i r) ∙ r
       go false d =
           let u = mem-map (keep (taken e es) (leafWrites es)) (subst (List·Memᴰ i) (placed-taken e es d) m) in
           let k = mem-keep (taken e es) (leafWrites es) (u .1) in
           let c = books-less e es b in
           subst (λ (x : ℕ). isPlaced h row x (e ∷ es) ≡ true) (u .2)
-          (as-addition (u .0 .operation) (e ∷ es) (not-two (c .writers (u .0) (k .0) .0)) ∙ same-root (e ∷ es) es c (u .0) (k .0) ∙ and-both (inRoot h (u .0) (e ∷ es)) _ (k .1) .0)
+          (as-addition h row (u .0 .operation) (e ∷ es) (not-two (c .writers (u .0) (k .0) .0)) ∙ same-root (e ∷ es) es c (u .0) (k .0) ∙ and-both (inRoot h (u .0) (e ∷ es)) _ (k .1) .0)
 
   -- who is listed has its place
   pub stands : (es : List Entry) → Books h row es → (i : ℕ) → List·Memᴰ i (listed h es) → isPlaced h row i es ≡ true
@@ -173,21 +174,21 @@ module _ (h : ℕ) (low : 1 ≤ h) (row : ℕ → Row) where
   -- who gets its place by an entry is listed by it
   newly-listed : (e : Entry) (es : List Entry) → Books h row es → (i : ℕ) → isPlaced h row i es ≡ false → isPlaced h row i (e ∷ es) ≡ true → List·Memᴰ i (placed h e es)
   unfolding isTakenIn
-  newly-listed e es b i n d = two-or-not i (List·Memᴰ i (placed h e es)) reads adds
+  newly-listed e es b i n d = two-or-not (row i .kind) (List·Memᴰ i (placed h e es)) reads adds
     where
       reads : row i .kind ≡ 2 → List·Memᴰ i (placed h e es)
       reads k =
-          ⊎-elim (λ r. absurd (false-true (sym n ∙ as-read i es k ∙ r))) (λ r. subst⁻¹ (List·Memᴰ i) (placed-read h e es (r .0)) (List·Memᴰ·head (r .1)))
-          (did-cases isRootRead i e es (sym (as-read i (e ∷ es) k) ∙ d))
+          ⊎-elim (λ r. absurd (false-true (sym n ∙ as-read h row i es k ∙ r))) (λ r. subst⁻¹ (List·Memᴰ i) (placed-read h e es (r .0)) (List·Memᴰ·head (r .1)))
+          (did-cases isRootRead i e es (sym (as-read h row i (e ∷ es) k) ∙ d))
 
       adds : (row i .kind ≡ 2 → ⊥) → List·Memᴰ i (placed h e es)
       adds k = go (isRootRead (e .access)) refl
         where
           was : isTakenIn h row i es ≡ false
-          was = sym (as-addition i es k) ∙ n
+          was = sym (as-addition h row i es k) ∙ n
 
           is : isTakenIn h row i (e ∷ es) ≡ true
-          is = sym (as-addition i (e ∷ es) k) ∙ d
+          is = sym (as-addition h row i (e ∷ es) k) ∙ d
 
           by : TakesIn (ancestor h (leafOf h (row i .process))) i e es
           by = takes-in h (leafOf h (row i .process)) i low e es was is
@@ -204,7 +205,7 @@ module _ (h : ℕ) (low : 1 ≤ h) (row : ℕ → Row) where
 
   pub lists : (es : List Entry) → Books h row es → (i : ℕ) → isPlaced h row i es ≡ true → List·Memᴰ i (listed h es)
   unfolding listed
-  lists [] b i d = absurd (false-true (sym (at-first i) ∙ d))
+  lists [] b i d = absurd (false-true (sym (at-first h row i) ∙ d))
   lists (e ∷ es) b i d = go (isPlaced h row i es) refl (lists es (books-less e es b) i)
     where
       go : (t : Bool) → isPlaced h row i es ≡ t → (isPlaced h row i es ≡ true → List·Memᴰ i (listed h es)) → List·Memᴰ i (listed h es ++ placed h e es)
@@ -228,7 +229,7 @@ module _ (h : ℕ) (low : 1 ≤ h) (row : ℕ → Row) where
 
   write-before : (e : Entry) (es : List Entry) → Books h row es → (i : ℕ) → List·Memᴰ i (listed h es) → row i .kind ≡ 3 → firstAfter (inLeaf i) (e ∷ es) ≡ firstAfter (inLeaf i) es
   unfolding isTakenIn
-  write-before e es b i m k = first-old (inLeaf i) e es (node-leaf h _ i es (sym (as-addition i es (not-two k)) ∙ stands es b i m))
+  write-before e es b i m k = first-old (inLeaf i) e es (node-leaf h _ i es (sym (as-addition h row i es (not-two k)) ∙ stands es b i m))
 
   tie-old : (e : Entry) (es : List Entry) → Books h row (e ∷ es) → (i j : ℕ) → List·Memᴰ i (listed h es) → List·Memᴰ j (listed h es) → Tie (e ∷ es) i j → Tie es i j
   tie-old e es b i j m n t =
@@ -253,4 +254,4 @@ module _ (h : ℕ) (low : 1 ≤ h) (row : ℕ → Row) where
       → (firstAfter (isPlaced h row i) es < firstAfter (isPlaced h row j) es) ⊎ ((firstAfter (isPlaced h row i) es ≡ firstAfter (isPlaced h row j) es) × Tie es i j)
       → positionOf i (listed h es) < positionOf j (listed h es)
   unfolding listed
-  listed-in-order = in-order (listed h) (placed h) (isPlaced h row) (Books h row) Tie refl (λ e es. refl) books-less at-first stands new-unplaced tie-old tie-new
+  listed-in-order = in-order (listed h) (placed h) (isPlaced h row) (Books h row) Tie refl (λ e es. refl) books-less (at-first h row) stands new-unplaced tie-old tie-new

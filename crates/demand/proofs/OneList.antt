@@ -60,13 +60,13 @@ module _ (h : ℕ) (st : State) (g : Good h st) (t : Told h st) (k : Whose h st)
       adds : (eqb (st .row i .kind) 3 && isTakenIn h (st .row) i es) ≡ true → List·Memᴰ i (listed h es)
       adds a =
           let b = and-both (eqb (st .row i .kind) 3) (isTakenIn h (st .row) i es) a in
-          lists h (g .low) (st .row) es books i (as-addition h (g .low) (st .row) i es (λ z. omega (arith, eqb-true (st .row i .kind) 3 (b .0))) ∙ b .1)
+          lists h (g .low) (st .row) es books i (as-addition h (st .row) i es (λ z. omega (arith, eqb-true (st .row i .kind) 3 (b .0))) ∙ b .1)
 
   -- an addition that is listed has its kind, as it has written
   is-addition : (i : ℕ) → List·Memᴰ i (listed h es) → (st .row i .kind ≡ 2 → ⊥) → (isTakenIn h (st .row) i es ≡ true) × (inLeaf i es ≡ true) × (st .row i .kind ≡ 3)
   unfolding isTakenIn
   is-addition i m n =
-      let a = sym (as-addition h (g .low) (st .row) i es n) ∙ stands h (g .low) (st .row) es books i m in
+      let a = sym (as-addition h (st .row) i es n) ∙ stands h (g .low) (st .row) es books i m in
       let w = node-leaf h _ i es a in
       (a, w, t .additions i (sym (did-leaf i es) ∙ w))
 
@@ -76,7 +76,7 @@ module _ (h : ℕ) (st : State) (g : Good h st) (t : Told h st) (k : Whose h st)
   listed-is : (i : ℕ) → List·Memᴰ i (listed h es) → isListed h st i ≡ true
   unfolding isListed isTakenIn
   listed-is i m =
-      two-or-not h (g .low) (st .row) i _ (λ a. or-left (eqb (st .row i .kind) 2 && st .row i .finished) _ (both-are _ _ (eq-eqb (st .row i .kind) 2 a) (t .reads i m a)))
+      two-or-not (st .row i .kind) _ (λ a. or-left (eqb (st .row i .kind) 2 && st .row i .finished) _ (both-are _ _ (eq-eqb (st .row i .kind) 2 a) (t .reads i m a)))
       (λ a. let b = is-addition i m a in or-right (eqb (st .row i .kind) 2 && st .row i .finished) _ (both-are _ _ (eq-eqb (st .row i .kind) 3 (b .2)) (b .0)))
 
   times-listed : (i : ℕ) → timesIn i (listed h es) ≡ cond (isListed h st i) 1 0
@@ -113,7 +113,7 @@ module _ (h : ℕ) (st : State) (g : Good h st) (t : Told h st) (k : Whose h st)
   Placed = isPlaced h (st .row)
 
   its-place : (i : ℕ) → List·Memᴰ i (listed h es) → Turned (Placed i) es
-  its-place i m = turned (Placed i) es (at-first h (g .low) (st .row) i) (stands h (g .low) (st .row) es books i m)
+  its-place i m = turned (Placed i) es (at-first h (st .row) i) (stands h (g .low) (st .row) es books i m)
 
   its-write : (i : ℕ) → inLeaf i es ≡ true → Turned (inLeaf i) es
   unfolding inLeaf
@@ -126,12 +126,12 @@ module _ (h : ℕ) (st : State) (g : Good h st) (t : Told h st) (k : Whose h st)
   -- the entry that places a read is its step, the one that places an addition an SC at node 1, and its write its leaf write
   read-turn : (i : ℕ) → st .row i .kind ≡ 2 → (e : Entry) (old : List Entry) → Placed i old ≡ false → Placed i (e ∷ old) ≡ true → (isRootRead (e .access) ≡ true) × (i ≡ e .operation)
   read-turn i a e old n d =
-      did-turn isRootRead i e old (sym (as-read h (g .low) (st .row) i old a) ∙ n) (sym (as-read h (g .low) (st .row) i (e ∷ old) a) ∙ d)
+      did-turn isRootRead i e old (sym (as-read h (st .row) i old a) ∙ n) (sym (as-read h (st .row) i (e ∷ old) a) ∙ d)
 
   store-turn : (i : ℕ) → (st .row i .kind ≡ 2 → ⊥) → (e : Entry) (old : List Entry) → Placed i old ≡ false → Placed i (e ∷ old) ≡ true → TakesIn (ancestor h (leafOf h (st .row i .process))) i e old
   unfolding isTakenIn
   store-turn i a e old n d =
-      takes-in h _ i (g .low) e old (sym (as-addition h (g .low) (st .row) i old a) ∙ n) (sym (as-addition h (g .low) (st .row) i (e ∷ old) a) ∙ d)
+      takes-in h _ i (g .low) e old (sym (as-addition h (st .row) i old a) ∙ n) (sym (as-addition h (st .row) i (e ∷ old) a) ∙ d)
 
   write-turn : (i : ℕ) (e : Entry) (old : List Entry) → inLeaf i old ≡ false → inLeaf i (e ∷ old) ≡ true → (isLeafWrite (e .access) ≡ true) × (i ≡ e .operation)
   write-turn i e old n d = did-turn isLeafWrite i e old (sym (did-leaf i old) ∙ n) (sym (did-leaf i (e ∷ old)) ∙ d)
@@ -140,7 +140,7 @@ module _ (h : ℕ) (st : State) (g : Good h st) (t : Told h st) (k : Whose h st)
   read-alone : (i j : ℕ) → st .row i .kind ≡ 2 → Together (Placed i) (Placed j) → i ≡ j
   read-alone i j two c =
       let r = read-turn i two (c .entry) (c .old) (c .was) (c .is) in
-      two-or-not h (g .low) (st .row) j (i ≡ j) (λ a. r .1 ∙ sym (read-turn j a (c .entry) (c .old) (c .was′) (c .is′) .1))
+      two-or-not (st .row j .kind) (i ≡ j) (λ a. r .1 ∙ sym (read-turn j a (c .entry) (c .old) (c .was′) (c .is′) .1))
       (λ a. absurd (false-true (sym (read-no-store h (g .low) (c .entry .access) (r .0) _) ∙ store-turn j a (c .entry) (c .old) (c .was′) (c .is′) .store)))
 
   -- and a leaf write is one operation's

@@ -55,7 +55,7 @@ pairs p m (suc k) = pairs p m k ++ map (λ j. (k, j)) (those (p k) m)
 unfoldable pub anyone : ℕ → Bool
 anyone i = true
 
--- an operation of kind k, 2 or 3, finished or not
+-- a finished operation of kind k; a listed one
 unfoldable pub isDone : ℕ → Row → Bool
 isDone k w = eqb (w .kind) k && w .finished
 
