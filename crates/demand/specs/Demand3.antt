@@ -11,7 +11,8 @@ use Rattle.meaning.specs.Plain.{runDown, upTo, timesIn}
 use Rattle.demand.specs.InOrder.{ListOf, Places}
 
 pub record Demand3 (h : ℕ) (st : State) : Type 0 where
-  -- The list is settled by who is in it and who stands before whom; the records by which that is said are those that the document names
+  -- "The list of demand 3 holds finished reads, placed at their one step, and additions that are in node 1, placed at the SC that took them
+  -- in. Additions with the same SC are ordered by their leaf writes": `listed` is such a list, no other is, and these are the places
   pub list : ListOf h st (listed h (st .history))
   pub only : (l : List ℕ) → ListOf h st l → l ≡ listed h (st .history)
   pub places : Places h st
