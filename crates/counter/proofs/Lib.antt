@@ -7,3 +7,4 @@ pub mod Tied
 pub mod Number
 pub mod Lists
 pub mod Told
+pub mod Whose

@@ -27,6 +27,22 @@ distinct-append nothing d apart = d
 distinct-append {m = m} (another {i} {is} z d) e apart =
     another (position-neither i is m (λ n. listed-some n z) (λ n. apart i n (List·Memᴰ·head refl))) (distinct-append d e (λ j n k. apart j n (List·Memᴰ·tail k)))
 
+pub distinct-front : (l m : List ℕ) → Distinct (l ++ m) → Distinct l
+distinct-front [] m d = nothing
+distinct-front (x ∷ l) m (another z d) = another (absent x l (λ n. listed-some (Memᴰ·append-left m n) z)) (distinct-front l m d)
+
+pub distinct-both : (l m : List ℕ) → Distinct (l ++ m) → {i : ℕ} → List·Memᴰ i l → List·Memᴰ i m → ⊥
+distinct-both (x ∷ l) m (another z d) (List·Memᴰ·head e) n = listed-some (Memᴰ·append-right l n) (ap (λ (j : ℕ). positionOf j (l ++ m)) e ∙ z)
+distinct-both (x ∷ l) m (another z d) (List·Memᴰ·tail k) n = distinct-both l m d k n
+distinct-both [] m d k n = List·Memᴰ·not-nil k
+
+pub some-position : {i : ℕ} (l : List ℕ) → List·Memᴰ i l → 1 ≤ positionOf i l
+some-position {i} l m = go (positionOf i l) (listed-some m)
+  where
+    go : (n : ℕ) → (n ≡ 0 → ⊥) → 1 ≤ n
+    go zero z = absurd (z refl)
+    go (suc n) z = omega arith
+
 -- ---- the list up to an operation
 
 pub up-to-first : (i : ℕ) (a b : List ℕ) → List·Memᴰ i a → upTo i (a ++ b) ≡ upTo i a
@@ -82,6 +98,18 @@ times-not i l n = times-none i l (absent i l n)
 pub times-once : (i : ℕ) (l : List ℕ) → Distinct l → timesIn i l ≤ 1
 times-once i l d = ⊎-elim (λ z. omega (arith, times-none i l z)) (λ m. omega (arith, times-some i l d m)) (found i l)
 
+-- what passes is kept
+pub keep-mem : {A : Type 0} (f : A → Bool) (l : List A) {w : A} → List·Memᴰ w l → f w ≡ true → List·Memᴰ w (keep f l)
+unfolding keep
+keep-mem f (x ∷ l) {w} m e = go (f x) refl m (λ n. keep-mem f l n e)
+  where
+    go : (t : Bool) → f x ≡ t → List·Memᴰ w (x ∷ l) → (List·Memᴰ w l → List·Memᴰ w (keep f l)) → List·Memᴰ w (cond t (x ∷ keep f l) (keep f l))
+    go true d (List·Memᴰ·head j) ih = List·Memᴰ·head j
+    go true d (List·Memᴰ·tail n) ih = List·Memᴰ·tail (ih n)
+    go false d (List·Memᴰ·head j) ih = absurd (false-true (sym d ∙ ap f (sym j) ∙ e))
+    go false d (List·Memᴰ·tail n) ih = ih n
+keep-mem f [] m e = absurd (List·Memᴰ·not-nil m)
+
 -- ---- what is in node 1 is listed
 
 module _ (h : ℕ) (low : 1 ≤ h) where
@@ -129,17 +157,6 @@ module _ (h : ℕ) (low : 1 ≤ h) where
   read-no-store (readsLeft y) r x = refl
   read-no-store (readsRight y) r x = refl
   read-no-store (stores a y) r x = absurd (false-true r)
-
-  keep-mem : (f : Waiter → Bool) (l : List Waiter) {w : Waiter} → List·Memᴰ w l → f w ≡ true → List·Memᴰ w (keep f l)
-  unfolding keep
-  keep-mem f (x ∷ l) {w} m e = go (f x) refl m (λ n. keep-mem f l n e)
-    where
-      go : (t : Bool) → f x ≡ t → List·Memᴰ w (x ∷ l) → (List·Memᴰ w l → List·Memᴰ w (keep f l)) → List·Memᴰ w (cond t (x ∷ keep f l) (keep f l))
-      go true d (List·Memᴰ·head j) ih = List·Memᴰ·head j
-      go true d (List·Memᴰ·tail n) ih = List·Memᴰ·tail (ih n)
-      go false d (List·Memᴰ·head j) ih = absurd (false-true (sym d ∙ ap f (sym j) ∙ e))
-      go false d (List·Memᴰ·tail n) ih = ih n
-  keep-mem f [] m e = absurd (List·Memᴰ·not-nil m)
 
   operations-mem : (l : List Waiter) {w : Waiter} → List·Memᴰ w l → List·Memᴰ (w .operation) (operationsOf l)
   unfolding operationsOf

@@ -1,6 +1,6 @@
 -- What is told by the list, through every record: the plain number run down it gives the reads their answers and ends at node 1's value; who
 -- is listed, and how often; and that the list keeps the order of finished before started.
-use Prim.Native.Nat.{ℕ, zero, suc, _+_, _-_, _%_, _^_, _≤_, _<_}
+use Prim.Native.Nat.{ℕ, suc, _%_, _^_, _≤_, _<_}
 use native.Mathlib.Omega.{arith}
 use mathlib.Core.Path.{_≡_, refl, sym, ap, _∙_, subst, subst⁻¹, fun-ext}
 use mathlib.Core.Logic.{_⊎_, ⊎-elim}
@@ -21,7 +21,7 @@ use Rattle.meaning.specs.Plain.{numberAfter, runDown, upTo}
 use Rattle.taken.specs.CountIn.{writesBy, countIn, Waiter, waiterOf, waiters}
 use Rattle.taken.proofs.Agree.{Once, written, turn-below}
 use Rattle.listing.specs.Queue.{isCounted, operationsOf}
-use Rattle.listing.proofs.Laws.{Distinct, nothing, listed-some}
+use Rattle.listing.proofs.Laws.{Distinct, nothing}
 use Rattle.ledger.proofs.Did.{did, did-leaf, did-cases}
 use Rattle.ledger.proofs.Turns.{Turn, root, leaf, write, link, leftward, rightward, store, Next, after-root, after-leaf, after-write, reads-the-root, root-read-adds-not}
 use Rattle.ledger.proofs.Good.{Good, Stepping, accessBy, recordAfter, entryBy, turns, goes, root-read-ends, same-operation, by-stepper, by-process, stepped-row, good-start, false-true}
@@ -38,7 +38,7 @@ use Rattle.counter.proofs.Values.{value-same, value-still}
 use Rattle.counter.proofs.Viewed.{stand-off}
 use Rattle.counter.proofs.Tied.{Tied}
 use Rattle.counter.proofs.Number.{run-append, run-same, run-newly}
-use Rattle.counter.proofs.Lists.{distinct-append, up-to-first, up-to-last, mem-up-to, root-lags, root-still, read-no-store, counted-listed}
+use Rattle.counter.proofs.Lists.{distinct-append, some-position, up-to-first, up-to-last, mem-up-to, root-lags, root-still, read-no-store, counted-listed}
 
 -- the sum of the leaves' values, each after those of its writes that are in node 1
 abbrev pub rootSum : ℕ → State → ℕ
@@ -352,15 +352,7 @@ module _ (h p : ℕ) (st : State) (s : Stepping h p st) (c : StepCount h st) (t 
 
           stands : List·Memᴰ j newest → positionOf i (before ++ newest) < positionOf j (before ++ newest)
           stands l =
-              let some = some-position l in
-              omega (arith, first, position-le i before, position-second j before newest (placed-new h p st s j l) l, some)
-            where
-              some-position : List·Memᴰ j newest → 1 ≤ positionOf j newest
-              some-position l = pos (positionOf j newest) (listed-some l)
-                where
-                  pos : (n : ℕ) → (n ≡ 0 → ⊥) → 1 ≤ n
-                  pos zero x = absurd (x refl)
-                  pos (suc n) x = omega arith
+              omega (arith, first, position-le i before, position-second j before newest (placed-new h p st s j l) l, some-position newest l)
 
   pub told-step : Told h st′
   unfolding takeStep listed rank rowAfter

@@ -156,7 +156,7 @@ module _ (h : ℕ) where
   told-same x a b e = ap (λ (n : ℕ). cond (ltb x (2 ^ h)) (n % 2 ^ 32) n) (under-same x a b e)
 
   pub sum-laws : Laws (sumTree h)
-  unfolding sumTree processes
+  unfolding sumTree processes plus
   sum-laws =
       record {
         inner = λ c. c .0;

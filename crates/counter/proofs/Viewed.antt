@@ -476,7 +476,7 @@ module _ (h p : ℕ) (st : State) (s : Stepping h p st) (ready : Ready h st) whe
               (counts-now good k d false (ne-eqb (ancestor (suc k) (leafOf h d)) x (λ j. n (sym b ∙ j))))
 
       stores-here : ok ≡ true → Move T p m m′ was is
-      unfolding climberOf placesOf effect withCell cellAt succeeds takeStep sumTree nobody left right
+      unfolding climberOf placesOf effect withCell cellAt succeeds takeStep sumTree nobody left right plus
       stores-here good =
           Move.stores p (writesBy p es) x half
           (record {

@@ -1,11 +1,9 @@
--- The theorem applied to A to F: its hypothesis is met by each, and its right sides compute to the documented answers and counters, so that
--- the reported ones are these.
-use Prim.Native.Nat.{ℕ, zero, suc}
-use mathlib.Core.Path.{_≡_, refl, sym, ap, ap₂, _∙_}
-use mathlib.Core.Bool.{Bool, true, false, cond, _&&_}
+-- The theorem applied to A to F and three more: its hypothesis is met by each, and what its clauses give is what the document says, so that
+-- this is so of the reports.
+use Prim.Native.Nat.{ℕ}
+use mathlib.Core.Path.{_≡_, refl, ap₂, _∙_}
+use mathlib.Core.Bool.{true}
 use mathlib.Core.List.{List, [], _∷_, _++_, map}
-use lib.Dec.{eqb}
-use borrow.Author.Tests.{eqb-true}
 use Rattle.sets.specs.Processes.{nobody, with, countBelow}
 use Rattle.cell.specs.Cell.{readOf, loadLinked, succeeds, storeConditional}
 use Rattle.recording.specs.Numbers.{fourBytes, numberAt}
@@ -15,53 +13,59 @@ use Rattle.meaning.specs.Layout.{version, follows, height, headRefusal, follow,
 use Rattle.meaning.specs.Tree.{processes, leafOf, left, right, parent, ancestor, root}
 use Rattle.meaning.specs.Access.{attempt, climb, additionSteps, readSteps, isRootRead, isLeafWrite, isReadOf, isStoreAt, isSecondLink}
 use Rattle.meaning.specs.Steps.{upd, cellAt, withCell, withValue, idle, stepsOf, accessOf, plus, onward, passesBy, sawIt, sawLeft, sawRight, atStep, effect, within, nextRecord}
-use Rattle.meaning.specs.Run.{State, Outcome, refused, accepted, blank, initial, busy, started, kindOf, newRow, start, rowAfter, takeStep, processOf, isStart, recordRefusal, takeEvent, unless, run, outcome}
-use Rattle.meaning.specs.TakenIn.{inLeaf, beforeRead, inStore, isInNode, keep, leafWrites, inRoot, placed, listed}
-use Rattle.meaning.specs.Plain.{numberAfter, runDown, upTo}
+use Rattle.meaning.specs.Run.{Outcome, refused, accepted, blank, initial, busy, started, kindOf, newRow, start, rowAfter, takeStep, processOf, isStart, recordRefusal, takeEvent, unless, run, outcome}
+use Rattle.meaning.specs.Alone.{alone}
+use Rattle.meaning.specs.TakenIn.{inLeaf, beforeRead, inStore, isInNode, keep, leafWrites, inRoot, placed, listed, further, positionOf, rank}
+use Rattle.meaning.specs.Plain.{numberAfter, runDown, upTo, timesIn}
 use Rattle.meaning.specs.Starred.{join, times, step, reads, adds, recording, reportOf, row, refusal, acceptance, cases}
 use Rattle.ledger.proofs.Good.{false-true}
 use Rattle.counter.proofs.Overs.{and-both}
-use Rattle.demand.specs.Applied.{recordings, stateOf, isAccepted, allAccepted, isFinishedRead, ofReads, Numbers, reported, given, documented}
+use Rattle.demand.specs.InOrder.{firstAfter, hasRead, isTakenIn, isListed, isPlaced, placeOf, writeOf, isAt, isReadBy, isRootStore, isWriteBy}
+use Rattle.demand.specs.Applied.{recordings, besides, stateOf, isAccepted, allAccepted, those, pairs, anyone, isDone, isListedOf, isEarlier, isTie, isBefore, isOver, every, allBelow, meets, listingGiven, standingGiven, numbersGiven, countsGiven, Columns, reported, given, allMeet, allGiven, documented, lists}
 use Rattle.demand.proofs.Holds.{demand-3}
+use Rattle.demand.proofs.Columns.{listing-same, standing-same, numbers-same, counts-same, meets-is}
 
 accepted-is : (o : Outcome) → isAccepted o ≡ true → o ≡ accepted (stateOf o)
 unfolding isAccepted stateOf
 accepted-is (refused a) e = absurd (false-true e)
 accepted-is (accepted st) e = refl
 
--- two columns that agree on the finished reads
-reads-same : (f g : ℕ → ℕ) (st : State) → ((i : ℕ) → st .row i .kind ≡ 2 → st .row i .finished ≡ true → f i ≡ g i) → (k : ℕ) → ofReads f st k ≡ ofReads g st k
-unfolding ofReads isFinishedRead
-reads-same f g st same zero = refl
-reads-same f g st same (suc k) = ap₂ (λ (a b : List ℕ). a ++ b) (reads-same f g st same k) (go (eqb (st .row k .kind) 2 && st .row k .finished) refl)
-  where
-    go : (t : Bool) → (eqb (st .row k .kind) 2 && st .row k .finished) ≡ t → cond t (f k ∷ []) [] ≡ cond t (g k ∷ []) []
-    go true e = let v = and-both (eqb (st .row k .kind) 2) (st .row k .finished) e in ap (λ (x : ℕ). x ∷ []) (same k (eqb-true (st .row k .kind) 2 (v .0)) (v .1))
-    go false e = refl
+-- each recording is accepted
+all-accepted : allAccepted (recordings ++ besides) ≡ true
+unfolding nobody with countBelow readOf loadLinked succeeds storeConditional fourBytes numberAt inTable whole eventAt cutAt firstOf version follows height headRefusal follow recordsFrom recordsOf processes leafOf left right parent ancestor root attempt climb additionSteps readSteps isRootRead isLeafWrite isReadOf isStoreAt isSecondLink upd cellAt withCell withValue idle stepsOf accessOf plus onward passesBy sawIt sawLeft sawRight atStep effect within nextRecord blank initial busy started kindOf newRow start rowAfter takeStep processOf isStart recordRefusal takeEvent unless run outcome join times step reads adds recording reportOf row refusal acceptance cases recordings besides isAccepted allAccepted
+all-accepted = refl
 
--- by demand 3, what is reported is what the plain number gives
-reported-given : (s : List ℕ) → isAccepted (outcome s) ≡ true → reported s ≡ given s
+-- the list that the document gives it meets the clauses
+all-meet : allMeet (recordings ++ besides) lists ≡ true
+unfolding nobody with countBelow readOf loadLinked succeeds storeConditional fourBytes numberAt inTable whole eventAt cutAt firstOf version follows height headRefusal follow recordsFrom recordsOf processes leafOf left right parent ancestor root attempt climb additionSteps readSteps isRootRead isLeafWrite isReadOf isStoreAt isSecondLink upd cellAt withCell withValue idle stepsOf accessOf plus onward passesBy sawIt sawLeft sawRight atStep effect within nextRecord blank initial busy started kindOf newRow start rowAfter takeStep processOf isStart recordRefusal takeEvent unless run outcome inLeaf beforeRead inStore isInNode keep leafWrites inRoot placed listed further positionOf rank numberAfter runDown upTo timesIn alone join times step reads adds recording reportOf row refusal acceptance cases firstAfter hasRead isTakenIn isListed isPlaced placeOf writeOf isAt isReadBy isRootStore isWriteBy recordings besides stateOf isListedOf isEarlier isTie isBefore every allBelow meets allMeet documented lists
+all-meet = refl
+
+-- what the clauses give is what the document says
+all-given : allGiven (recordings ++ besides) lists ≡ documented
+unfolding nobody with countBelow readOf loadLinked succeeds storeConditional fourBytes numberAt inTable whole eventAt cutAt firstOf version follows height headRefusal follow recordsFrom recordsOf processes leafOf left right parent ancestor root attempt climb additionSteps readSteps isRootRead isLeafWrite isReadOf isStoreAt isSecondLink upd cellAt withCell withValue idle stepsOf accessOf plus onward passesBy sawIt sawLeft sawRight atStep effect within nextRecord blank initial busy started kindOf newRow start rowAfter takeStep processOf isStart recordRefusal takeEvent unless run outcome inLeaf beforeRead inStore isInNode keep leafWrites inRoot placed listed further positionOf rank numberAfter runDown upTo timesIn alone join times step reads adds recording reportOf row refusal acceptance cases firstAfter hasRead isTakenIn isListed isPlaced placeOf writeOf isAt isReadBy isRootStore isWriteBy recordings besides stateOf those pairs anyone isDone isListedOf isEarlier isTie isOver listingGiven standingGiven numbersGiven countsGiven given allGiven documented lists
+all-given = refl
+
+reported-given : (s l : List ℕ) → isAccepted (outcome s) ≡ true → meets (height s) (stateOf (outcome s)) l ≡ true → reported s ≡ given s l
 unfolding reported given
-reported-given s e =
+reported-given s l e n =
     let st = stateOf (outcome s) in
     let d = demand-3 s st (accepted-is (outcome s) e) in
-    ap₂ (λ (a : List ℕ) (n : ℕ). record { reads = a; counter = n }) (reads-same _ _ st (λ i k f. d .answers i k f) (st .operations)) (sym (d .counter))
+    λ t. record {
+      listing = listing-same (height s) st d l (meets-is (height s) st d l n) t;
+      standing = standing-same (height s) st d t;
+      numbers = numbers-same (height s) st d t;
+      counts = counts-same (height s) st d t;
+    }
 
-all-reported : (l : List (List ℕ)) → allAccepted l ≡ true → map reported l ≡ map given l
-unfolding allAccepted
-all-reported [] e = refl
-all-reported (s ∷ l) e = let v = and-both (isAccepted (outcome s)) (allAccepted l) e in ap₂ (λ (x : Numbers) (y : List Numbers). x ∷ y) (reported-given s (v .0)) (all-reported l (v .1))
+all-reported : (rs ls : List (List ℕ)) → allAccepted rs ≡ true → allMeet rs ls ≡ true → map reported rs ≡ allGiven rs ls
+unfolding allAccepted allMeet allGiven
+all-reported [] ls a e = refl
+all-reported (s ∷ rs) [] a e = absurd (false-true e)
+all-reported (s ∷ rs) (l ∷ ls) a e =
+    let v = and-both (isAccepted (outcome s)) (allAccepted rs) a in
+    let w = and-both (meets (height s) (stateOf (outcome s)) l) _ e in
+    ap₂ (λ (x : Columns) (y : List Columns). x ∷ y) (reported-given s l (v .0) (w .0)) (all-reported rs ls (v .1) (w .1))
 
--- each of the six is accepted
-six-accepted : allAccepted recordings ≡ true
-unfolding nobody with countBelow readOf loadLinked succeeds storeConditional fourBytes numberAt inTable whole eventAt cutAt firstOf version follows height headRefusal follow recordsFrom recordsOf processes leafOf left right parent ancestor root attempt climb additionSteps readSteps isRootRead isLeafWrite isReadOf isStoreAt isSecondLink upd cellAt withCell withValue idle stepsOf accessOf plus onward passesBy sawIt sawLeft sawRight atStep effect within nextRecord blank initial busy started kindOf newRow start rowAfter takeStep processOf isStart recordRefusal takeEvent unless run outcome join times step reads adds recording reportOf row refusal acceptance cases recordings isAccepted allAccepted
-six-accepted = refl
-
--- the plain number gives the documented answers and counters
-six-given : map given recordings ≡ documented
-unfolding nobody with countBelow readOf loadLinked succeeds storeConditional fourBytes numberAt inTable whole eventAt cutAt firstOf version follows height headRefusal follow recordsFrom recordsOf processes leafOf left right parent ancestor root attempt climb additionSteps readSteps isRootRead isLeafWrite isReadOf isStoreAt isSecondLink upd cellAt withCell withValue idle stepsOf accessOf plus onward passesBy sawIt sawLeft sawRight atStep effect within nextRecord blank initial busy started kindOf newRow start rowAfter takeStep processOf isStart recordRefusal takeEvent unless run outcome inLeaf beforeRead inStore isInNode keep leafWrites inRoot placed listed numberAfter runDown upTo join times step reads adds recording reportOf row refusal acceptance cases recordings stateOf isFinishedRead ofReads given documented
-six-given = refl
-
--- so the reports of A to F have the documented answers and counters
-pub applied : map reported recordings ≡ documented
-applied = all-reported recordings six-accepted ∙ six-given
+-- so the states after A to F, and after the three more, have every column as the document says
+pub applied : map reported (recordings ++ besides) ≡ documented
+applied = all-reported (recordings ++ besides) lists all-accepted all-meet ∙ all-given

@@ -1,4 +1,10 @@
+pub mod First
+pub mod OneOrder
+pub mod TakesIn
+pub mod InOrder
+pub mod OneList
 pub mod Holds
+pub mod Columns
 pub mod Applied
 pub mod ByRank
 pub mod Starts

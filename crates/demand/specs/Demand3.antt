@@ -2,13 +2,20 @@
 use Prim.Native.Nat.{ℕ, _+_, _*_, _≤_, _<_}
 use mathlib.Core.Path.{_≡_}
 use mathlib.Core.Bool.{true, false}
+use mathlib.Core.List.{List}
 use Rattle.meaning.specs.Tree.{root}
 use Rattle.meaning.specs.Run.{State}
 use Rattle.meaning.specs.Alone.{alone}
 use Rattle.meaning.specs.TakenIn.{listed, rank}
 use Rattle.meaning.specs.Plain.{runDown, upTo, timesIn}
+use Rattle.demand.specs.InOrder.{ListOf, Places}
 
 pub record Demand3 (h : ℕ) (st : State) : Type 0 where
+  -- "The list of demand 3 holds finished reads, placed at their one step, and additions that are in node 1, placed at the SC that took them
+  -- in. Additions with the same SC are ordered by their leaf writes": `listed` is such a list, no other is, and these are the places
+  pub list : ListOf h st (listed h (st .history))
+  pub only : (l : List ℕ) → ListOf h st l → l ≡ listed h (st .history)
+  pub places : Places h st
   -- "One plain number from 0, run down that list modulo 2^32, gives every read its reported answer and ends at the root's value."
   pub answers : (i : ℕ) → st .row i .kind ≡ 2 → st .row i .finished ≡ true → st .row i .answer ≡ runDown (st .row) 0 (upTo i (listed h (st .history)))
   pub counter : runDown (st .row) 0 (listed h (st .history)) ≡ st .memory .value root

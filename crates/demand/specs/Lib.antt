@@ -1,3 +1,4 @@
+pub mod InOrder
 pub mod Demand3
 pub mod Applied
 pub mod ReadBack

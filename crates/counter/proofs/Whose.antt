@@ -1,0 +1,124 @@
+-- Whose operation is whose, through every record: a row's process is one of the tree; a busy process's operation has it in its row, as has
+-- every leaf write; and who has read node 1 is a read.
+use Prim.Native.Nat.{ℕ, _^_, _≤_, _<_}
+use native.Mathlib.Omega.{arith}
+use mathlib.Core.Path.{_≡_, refl, sym, ap, _∙_}
+use mathlib.Core.Logic.{_⊎_, inl, inr, ⊎-elim}
+use mathlib.Core.Bool.{Bool, true, false, cond}
+use mathlib.Core.List.{List, [], _∷_, List·Memᴰ, List·Memᴰ·append-cases, List·Memᴰ·eq-of-singleton, List·Memᴰ·not-nil}
+use lib.Pow.{pow-mono}
+use Rattle.arrays.proofs.Laws.{upd-other}
+use Rattle.meaning.specs.Access.{starts, isLeafWrite, isRootRead}
+use Rattle.meaning.specs.Steps.{idle as idleProcess}
+use Rattle.meaning.specs.Run.{Entry, Row, State, blank, initial, started, kindOf, newRow, start, rowAfter, takeStep}
+use Rattle.meaning.specs.TakenIn.{leafWrites}
+use Rattle.ledger.proofs.Did.{did, did-now, did-on, did-cases}
+use Rattle.ledger.proofs.Turns.{root-read-adds-not}
+use Rattle.ledger.proofs.Good.{Good, Stepping, accessBy, entryBy, turns, same-operation, by-stepper, by-process, stepped-row, started-row, false-true}
+use Rattle.ledger.proofs.StepCount.{StepCount}
+
+pub record Whose (h : ℕ) (st : State) : Type 0 where
+  pub inside : (i : ℕ) → st .row i .process < 2 ^ h
+  pub owner : (p : ℕ) → 1 ≤ st .process p .step → st .row (st .process p .operation) .process ≡ p
+  pub readers : (i : ℕ) → did isRootRead i (st .history) ≡ true → st .row i .kind ≡ 2
+  pub writers : (w : Entry) → List·Memᴰ w (leafWrites (st .history)) → st .row (w .operation) .process ≡ w .process
+
+-- a leaf write is the latest entry's, or older
+pub write-cases : (e : Entry) (es : List Entry) (w : Entry) → List·Memᴰ w (leafWrites (e ∷ es)) → List·Memᴰ w (leafWrites es) ⊎ ((isLeafWrite (e .access) ≡ true) × (w ≡ e))
+unfolding leafWrites
+write-cases e es w m = ⊎-elim (λ n. inl n) (λ n. go (isLeafWrite (e .access)) refl n) (List·Memᴰ·append-cases (leafWrites es) m)
+  where
+    go : (t : Bool) → isLeafWrite (e .access) ≡ t → List·Memᴰ w (cond t (e ∷ []) []) → List·Memᴰ w (leafWrites es) ⊎ ((isLeafWrite (e .access) ≡ true) × (w ≡ e))
+    go true d n = inr (d, List·Memᴰ·eq-of-singleton n)
+    go false d n = absurd (List·Memᴰ·not-nil n)
+
+pub writes-did : (es : List Entry) (w : Entry) → List·Memᴰ w (leafWrites es) → did isLeafWrite (w .operation) es ≡ true
+unfolding leafWrites
+writes-did [] w m = absurd (List·Memᴰ·not-nil m)
+writes-did (e ∷ es) w m =
+    ⊎-elim (λ n. did-on isLeafWrite (w .operation) e es (writes-did es w n)) (λ n. did-now isLeafWrite (w .operation) e es (n .0) (ap (λ (x : Entry). x .operation) (n .1))) (write-cases e es w m)
+
+-- ---- a step
+
+module _ (h p : ℕ) (st : State) (s : Stepping h p st) (c : StepCount h st) (k : Whose h st) where
+  abbrev st′ : State
+  st′ = takeStep h p st
+
+  -- process and kind of a row stay
+  same-row : (i : ℕ) → (st′ .row i .process ≡ st .row i .process) × (st′ .row i .kind ≡ st .row i .kind)
+  unfolding rowAfter
+  same-row i =
+      stepped-row h p st s i (λ w. (w .process ≡ st .row i .process) × (w .kind ≡ st .row i .kind))
+      (λ j. (ap (λ (x : ℕ). st .row x .process) (sym j), ap (λ (x : ℕ). st .row x .kind) (sym j))) (λ n. (refl, refl))
+
+  own-kind : isRootRead (accessBy h p st) ≡ true → st .row (st .process p .operation) .kind ≡ 2
+  unfolding kindOf
+  own-kind d = c .kinds p (s .acts) ∙ ap (λ (b : Bool). cond b 3 2) (root-read-adds-not (turns h p st s) d)
+
+  writers-step : (w : Entry) → List·Memᴰ w (leafWrites (entryBy h p st ∷ st .history)) → st .row (w .operation) .process ≡ w .process
+  writers-step w m =
+      ⊎-elim (k .writers w) (λ d. ap (λ (x : Entry). st .row (x .operation) .process) (d .1) ∙ k .owner p (s .acts) ∙ sym (ap (λ (x : Entry). x .process) (d .1))) (write-cases (entryBy h p st) (st .history) w m)
+
+  pub whose-step : Whose h st′
+  unfolding takeStep
+  whose-step =
+      record {
+        inside = λ i. omega (arith, same-row i .0, k .inside i);
+        owner = by-stepper h p st s (λ q r. 1 ≤ r .step → st′ .row (r .operation) .process ≡ q)
+            (λ b. ap (λ (i : ℕ). st′ .row i .process) (same-operation h p st s) ∙ same-row (st .process p .operation) .0 ∙ k .owner p (s .acts))
+            (λ q n b. same-row (st .process q .operation) .0 ∙ k .owner q b);
+        readers = λ i d. same-row i .1 ∙ ⊎-elim (k .readers i) (λ r. ap (λ (x : ℕ). st .row x .kind) (r .1) ∙ own-kind (r .0)) (did-cases isRootRead i (entryBy h p st) (st .history) d);
+        writers = λ w m. same-row (w .operation) .0 ∙ writers-step w m;
+      }
+
+-- ---- a start, and the beginning
+
+module _ (h p : ℕ) (adds : Bool) (delta : ℕ) (st : State) (g : Good h st) (inside : p < 2 ^ h) (free : st .process p .step ≡ 0) (room : st .operations < 1024) (k : Whose h st) where
+  abbrev begins : Entry
+  begins = record { process = p; operation = st .operations; access = starts; stored = false }
+
+  -- the rows of the operations that had started stay
+  old-row : (i : ℕ) → i < st .operations → start h p adds delta st .row i ≡ st .row i
+  unfolding start
+  old-row i b = upd-other (st .row) (st .operations) _ i (λ j. omega arith)
+
+  new-row : start h p adds delta st .row (st .operations) .process ≡ p
+  unfolding newRow
+  new-row = started-row h p adds delta st g inside free room (st .operations) (λ w. w .process ≡ p) refl (λ n. absurd (n refl))
+
+  readers-start : (i : ℕ) → did isRootRead i (begins ∷ st .history) ≡ true → start h p adds delta st .row i .kind ≡ 2
+  unfolding isRootRead
+  readers-start i d =
+      let was = ⊎-elim (λ r. r) (λ r. absurd (false-true (r .0))) (did-cases isRootRead i begins (st .history) d) in
+      ap (λ (w : Row). w .kind) (old-row i (g .known isRootRead i was)) ∙ k .readers i was
+
+  writers-start : (w : Entry) → List·Memᴰ w (leafWrites (begins ∷ st .history)) → start h p adds delta st .row (w .operation) .process ≡ w .process
+  unfolding isLeafWrite
+  writers-start w m =
+      let was = ⊎-elim (λ n. n) (λ n. absurd (false-true (n .0))) (write-cases begins (st .history) w m) in
+      ap (λ (x : Row). x .process) (old-row (w .operation) (g .known isLeafWrite (w .operation) (writes-did (st .history) w was))) ∙ k .writers w was
+
+  inside-start : (i : ℕ) → start h p adds delta st .row i .process < 2 ^ h
+  unfolding newRow
+  inside-start i = started-row h p adds delta st g inside free room i (λ w. w .process < 2 ^ h) inside (λ n. k .inside i)
+
+  pub whose-start : Whose h (start h p adds delta st)
+  unfolding start started
+  whose-start =
+      record {
+        inside = inside-start;
+        owner = by-process h p adds delta st g inside free room (λ q r. 1 ≤ r .step → start h p adds delta st .row (r .operation) .process ≡ q)
+            (λ b. new-row) (λ q n b. ap (λ (w : Row). w .process) (old-row (st .process q .operation) (g .owns q b)) ∙ k .owner q b);
+        readers = readers-start;
+        writers = writers-start;
+      }
+
+pub whose-initial : (h : ℕ) → Whose h initial
+unfolding initial idleProcess blank did leafWrites
+whose-initial h =
+    record {
+      inside = λ i. omega (arith, pow-mono {i = 0} {j = h} (omega arith));
+      owner = λ p b. absurd (omega arith);
+      readers = λ i d. absurd (false-true d);
+      writers = λ w m. absurd (List·Memᴰ·not-nil m);
+    }
