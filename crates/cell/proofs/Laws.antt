@@ -2,13 +2,18 @@
 use Prim.Native.Nat.{ℕ, _^_, _<_}
 use mathlib.Core.Bool.{true, false}
 use mathlib.Core.Path.{_≡_, sym, ap, _∙_}
-use Rattle.sets.specs.Processes.{nobody}
+use Rattle.sets.specs.Processes.{nobody, isIn}
 use Rattle.sets.proofs.Laws.{same-set}
 use Rattle.cell.specs.Cell.{State, stateOf, succeeds, storeConditional}
 use Rattle.cell.specs.Done.{Links, Stores}
 use Rattle.cell.specs.declared.Cell.{Cell}
 use Rattle.cell.specs.declared.Loaded.{Loaded}
 use Rattle.cell.specs.declared.Stored.{Stored}
+
+-- a cell of the program keeps the state that has its value and its links
+pub state-is : (v l : ℕ) (q : State) → v ≡ q .value → isIn l ≡ q .linked → stateOf (record { value = v; links = l }) ≡ q
+unfolding stateOf
+state-is v l q value linked = λ i. record { value = value i; linked = linked i }
 
 pub sc-succeeds : (u p : ℕ) (q : State) → succeeds p q ≡ true → storeConditional u p q ≡ record { value = u; linked = nobody }
 unfolding succeeds storeConditional

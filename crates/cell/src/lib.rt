@@ -37,11 +37,14 @@ impl Cell {
     pub fn ll(self, p: usize) -> Loaded
         ensures { λ r. ⌜ Links p self r ⌝ }
     {
+        let value = self.value;
+        let before = self.links;
+        let after = sets::put(before, p);
         Loaded {
-            value: self.value,
+            value,
             cell: Cell {
-                value: self.value,
-                links: sets::put(self.links, p),
+                value,
+                links: after,
             },
         }
     }
@@ -53,11 +56,12 @@ impl Cell {
         let links = self.links;
         let ok = sets::has(links, p);
         if ok {
+            let none = sets::empty();
             Stored {
                 ok,
                 cell: Cell {
                     value: u,
-                    links: sets::empty(),
+                    links: none,
                 },
             }
         } else {

@@ -1,20 +1,21 @@
 -- Turns in a row hand out the records of the definition: those that `recordsOf` lists, and no others.
 use Prim.Native.Nat.{ℕ, zero, suc, _+_, _≤_}
-use mathlib.Core.Path.{_≡_, refl, sym, ap, subst, _∙_}
+use mathlib.Core.Path.{_≡_, refl, sym, ap, _∙_}
 use mathlib.Core.List.{List}
 use native.Mathlib.Omega.{arith}
 use lib.ListN.{length}
-use denote.Ref.{now}
+use denote.Ref.{RefT, now}
 use Rattle.recording.specs.Record.{bytesOf, cutAt}
 use Rattle.recording.specs.declared.Event.{Event}
 use Rattle.recording.specs.declared.Event.the-variants.{Step, Read, Add}
 use Rattle.recording.specs.declared.Cut.{Cut}
 use Rattle.recording.specs.declared.Cut.the-variants.{Found, Broken, End}
+use Rattle.recording.proofs.Cases.{cuts-some}
 use Rattle.meaning.specs.Layout.{Records, event, follow, recordsFrom, recordsOf}
-use Rattle.reader.specs.Reads.{Reads, placeAfter, readingAt}
+use Rattle.reader.specs.Reads.{Reads, placeAfter, readerOf}
 use Rattle.reader.specs.InARow.{HandsOut, ends, refuses, hands}
 use Rattle.reader.specs.declared.Reader.{Reader}
-use Rattle.reader.proofs.Laws.{beyond-ends, event-moves, reads-on}
+use Rattle.reader.proofs.Laws.{beyond-ends, event-moves, reads-at}
 
 -- every event has a byte at least
 bytes-some : (e : Event) → 1 ≤ length (bytesOf e)
@@ -27,7 +28,7 @@ bytes-some (Add p d) = omega arith
 followed : {r r′ : Reader} {c : Cut} → Reads r r′ c → (most : ℕ)
     → recordsFrom (suc most) (now (r .rec)) (r .place) ≡ follow (r .place) c (recordsFrom most (now (r .rec)))
 unfolding recordsFrom
-followed {r} p most = ap (λ (c : Cut). follow (r .place) c (recordsFrom most (now (r .rec)))) (sym (p .hands))
+followed {r} p most = ap (λ (c : Cut). follow (r .place) c (recordsFrom most (now (r .rec)))) (sym (p .gives .cuts .is))
 
 module _ {r r′ : Reader} {e : Event} {next : ℕ} (p : Reads r r′ (Found e next)) where
   -- the definition goes on where the reader now stands
@@ -52,11 +53,10 @@ hands-from (refuses p) (suc most) enough = sym (followed p most)
 hands-from {r} (hands {e = e} p rest) (suc most) enough =
     ap (event (r .place) e) (hands-from rest most (fewer p most enough) ∙ goes-on p most) ∙ sym (followed p most)
 
--- whatever is handed out from byte 6 on is what the definition lists
-pub hands-all : {r : Reader} {rs : Records} → HandsOut r rs → r .place ≡ 6 → rs ≡ recordsOf (now (r .rec))
-unfolding recordsOf
-hands-all {r} h six =
-    hands-from h (length (now (r .rec))) (omega arith) ∙ ap (recordsFrom (length (now (r .rec))) (now (r .rec))) six
+-- whatever a new reader hands out is what the definition lists
+pub hands-all : (rec : RefT (List ℕ)) {rs : Records} → HandsOut (readerOf rec) rs → rs ≡ recordsOf (now rec)
+unfolding readerOf recordsOf
+hands-all rec h = hands-from h (length (now rec)) (omega arith)
 
 -- ---- and all of it is handed out
 
@@ -65,8 +65,7 @@ abbrev moved : Reader → Reader
 moved r = record { rec = r .rec; place = placeAfter (r .place) (cutAt (now (r .rec)) (r .place)) }
 
 turn : (r : Reader) → Reads r (moved r) (cutAt (now (r .rec)) (r .place))
-unfolding readingAt
-turn r = reads-on r (readingAt (now (r .rec)) (r .place)) refl
+turn r = record { gives = reads-at _ (cuts-some (now (r .rec)) (r .place)) refl; keeps = refl }
 
 hands-on : {r r′ : Reader} {c : Cut} → Reads r r′ c → (most : ℕ)
     → ((e : Event) (next : ℕ) → Reads r r′ (Found e next) → HandsOut r′ (recordsFrom most (now (r .rec)) next))
@@ -82,8 +81,6 @@ hands-enough zero r enough = ends (rw (beyond-ends (turn r) (omega arith) .0) at
 hands-enough (suc most) r enough =
     rw (followed (turn r) most) (hands-on (turn r) most (λ e next p. rw (goes-on p most) at (hands-enough most (moved r) (fewer p most enough))))
 
-pub hands-some : (r : Reader) → r .place ≡ 6 → HandsOut r (recordsOf (now (r .rec)))
-unfolding recordsOf
-hands-some r six =
-    let s = now (r .rec) in
-    subst (λ (at : ℕ). HandsOut r (recordsFrom (length s) s at)) six (hands-enough (length s) r (omega arith))
+pub hands-some : (rec : RefT (List ℕ)) → HandsOut (readerOf rec) (recordsOf (now rec))
+unfolding readerOf recordsOf
+hands-some rec = hands-enough (length (now rec)) (readerOf rec) (omega arith)

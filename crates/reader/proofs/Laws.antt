@@ -6,59 +6,46 @@ use mathlib.Core.Bool.{Bool, true, false, cond}
 use mathlib.Core.List.{List, _++_}
 use native.Mathlib.Omega.{arith}
 use lib.Dec.{leb}
-use lib.ListN.{length, getD}
+use lib.ListN.{length, getD, drop}
 use borrow.Author.Tests.{leb-true}
 use denote.Ref.{now}
 use Rattle.recording.specs.Record.{Cuts, EventFits, bytesOf, cutAnswer, cutAt, eventAt, whole}
+use Rattle.recording.specs.Written.{Writes}
 use Rattle.recording.specs.declared.Event.{Event}
 use Rattle.recording.specs.declared.Cut.{Cut}
 use Rattle.recording.specs.declared.Cut.the-variants.{Found, Broken, End}
+use Rattle.recording.specs.declared.Written.{Written}
 use Rattle.recording.proofs.Cases.{ended, found-whole}
-use Rattle.recording.proofs.Laws.{written-reads-back}
-use Rattle.reader.specs.Reads.{Reads, placeAfter, readAnswer, readingAt}
+use Rattle.recording.proofs.Laws.{cuts-one, lays, written-reads-back}
+use Rattle.reader.specs.Reads.{Reads, ReadsAt, placeAfter}
 use Rattle.reader.specs.declared.Reader.{Reader}
 use Rattle.reader.specs.declared.Reading.{Reading}
 
 -- ---- the reading, and the reader that takes it on
 
-pub reading-is : {s : List ℕ} {at : ℕ} {r : Cut} (place : ℕ) → Cuts s at r → place ≡ placeAfter at r
-    → record { cut = r; place = place } ≡ readingAt s at
-unfolding readingAt
-reading-is {s} {at} {r} place c h = λ i. record { cut = c .is i; place = (h ∙ ap (placeAfter at) (c .is)) i }
+pub reads-at : {s : List ℕ} {at : ℕ} {r : Cut} (place : ℕ) → Cuts s at r → place ≡ placeAfter at r
+    → ReadsAt s at (record { cut = r; place = place })
+reads-at place c h = record { cuts = c; moves = h }
 
-chosen : (ends fine : Bool) (e : Event) (at next : ℕ)
-    → cutAnswer (cond ends End (cond fine (Found e next) (Broken at)))
-    ≡ cond ends (record { number = 0; place = 0 }) (cond fine (record { number = 0; place = next }) (record { number = 6; place = at }))
-unfolding cutAnswer
-chosen true fine e at next = refl
-chosen false true e at next = refl
-chosen false false e at next = refl
-
-pub answer-is : (s : List ℕ) (at : ℕ) → cutAnswer (cutAt s at) ≡ readAnswer s at
-unfolding cutAt readAnswer
-answer-is s at = chosen (leb (length s) at) (whole s at) (eventAt s at) at (at + 1 + getD s at 0)
-
-pub reads-on : (before : Reader) (r : Reading) → r ≡ readingAt (now (before .rec)) (before .place)
+pub reads-on : (before : Reader) (r : Reading) → ReadsAt (now (before .rec)) (before .place) r
     → Reads before (record { rec = before .rec; place = r .place }) (r .cut)
-unfolding readingAt
-reads-on before r e =
-    let hands : r .cut ≡ cutAt (now (before .rec)) (before .place) = ap (λ (x : Reading). x .cut) e in
-    record {
-      hands = hands;
-      answer = ap cutAnswer hands ∙ answer-is (now (before .rec)) (before .place);
-      keeps = refl;
-      moves = ap (λ (x : Reading). x .place) e ∙ sym (ap (placeAfter (before .place)) hands);
-    }
+reads-on before r p = record { gives = p; keeps = refl }
 
 -- ---- the contract leaves one answer and one reader
 
 same-reader : {a b : Reader} → a .rec ≡ b .rec → a .place ≡ b .place → a ≡ b
 same-reader p q = λ i. record { rec = p i; place = q i }
 
+pub readings-one : {s : List ℕ} {at : ℕ} {a b : Reading} → ReadsAt s at a → ReadsAt s at b → a ≡ b
+readings-one {at = at} p q =
+    let e = cuts-one (p .cuts) (q .cuts) in
+    let place = p .moves ∙ ap (placeAfter at) e ∙ sym (q .moves) in
+    λ i. record { cut = e i; place = place i }
+
 pub reads-one : {before a b : Reader} {x y : Cut} → Reads before a x → Reads before b y → (x ≡ y) × (a ≡ b)
-reads-one {before} {a} {b} {x} {y} p q =
-    let e : x ≡ y = p .hands ∙ sym (q .hands) in
-    (e, same-reader (p .keeps ∙ sym (q .keeps)) (p .moves ∙ ap (placeAfter (before .place)) e ∙ sym (q .moves)))
+reads-one p q =
+    let e = readings-one (p .gives) (q .gives) in
+    (ap (λ (x : Reading). x .cut) e, same-reader (p .keeps ∙ sym (q .keeps)) (ap (λ (x : Reading). x .place) e))
 
 -- ---- where the place stays, and where it goes
 
@@ -83,7 +70,7 @@ pub refused-stays : {before after : Reader} {r : Cut} → Reads before after r �
 unfolding cutAnswer placeAfter
 refused-stays {r = Found e next} p six = absurd (omega arith)
 refused-stays {before} {r = Broken offset} p six =
-    (broken-at (now (before .rec)) (before .place) (sym (p .hands)), same-reader (p .keeps) (p .moves))
+    (broken-at (now (before .rec)) (before .place) (sym (p .gives .cuts .is)), same-reader (p .keeps) (p .gives .moves))
 refused-stays {r = End} p six = absurd (omega arith)
 
 -- "With no bytes left, or with a place beyond the lent bytes, it says that the end is reached", and only there; the place stays
@@ -91,29 +78,31 @@ pub beyond-ends : {before after : Reader} {r : Cut} → Reads before after r →
     → (r ≡ End) × (after ≡ before)
 unfolding placeAfter
 beyond-ends {before} p h =
-    let e = p .hands ∙ sym (ended (now (before .rec)) (before .place) h .is) in
-    (e, same-reader (p .keeps) (p .moves ∙ ap (placeAfter (before .place)) e))
+    let e = p .gives .cuts .is ∙ sym (ended (now (before .rec)) (before .place) h .is) in
+    (e, same-reader (p .keeps) (p .gives .moves ∙ ap (placeAfter (before .place)) e))
 
 pub end-is-beyond : {before after : Reader} → Reads before after End → length (now (before .rec)) ≤ before .place
 unfolding cutAt
 end-is-beyond {before} p =
     let s = now (before .rec) in
     let at = before .place in
-    leb-true (length s) at (ends-at (leb (length s) at) (whole s at) (eventAt s at) at (at + 1 + getD s at 0) (sym (p .hands)))
+    leb-true (length s) at (ends-at (leb (length s) at) (whole s at) (eventAt s at) at (at + 1 + getD s at 0) (sym (p .gives .cuts .is)))
 
 -- an event moves the place past its bytes
 pub event-moves : {before after : Reader} {e : Event} {next : ℕ} → Reads before after (Found e next)
     → (after .place ≡ next) × (next ≡ before .place + length (bytesOf e))
 unfolding placeAfter
-event-moves {before} p = (p .moves, found-whole (now (before .rec)) (before .place) (sym (p .hands)) .1)
+event-moves {before} p = (p .gives .moves, found-whole (now (before .rec)) (before .place) (sym (p .gives .cuts .is)) .1)
 
--- ---- written, and read back
+-- ---- written, and read back: what the writer left in a buffer with room is handed out, wherever the buffer stands in the recording
 
-pub written-is-read : (front rest : List ℕ) (e : Event) → EventFits e → {before after : Reader} {r : Cut} → Reads before after r
-    → now (before .rec) ≡ front ++ (bytesOf e ++ rest) → before .place ≡ length front
+pub written-is-read : (front : List ℕ) {e : Event} {buf left : List ℕ} {w : Written} → EventFits e → length (bytesOf e) ≤ length buf
+    → Writes e buf left w → {before after : Reader} {r : Cut} → Reads before after r → now (before .rec) ≡ front ++ left
+    → before .place ≡ length front
     → (r ≡ Found e (length front + length (bytesOf e))) × (after .place ≡ length front + length (bytesOf e))
 unfolding placeAfter
-written-is-read front rest e fits {before} p bytes place =
-    let there = ap (cutAt (now (before .rec))) place ∙ ap (λ (s : List ℕ). cutAt s (length front)) bytes in
-    let found = p .hands ∙ there ∙ written-reads-back front rest e fits in
-    (found, p .moves ∙ ap (placeAfter (before .place)) found)
+written-is-read front {e} {buf} fits room w {before} p bytes place =
+    let there = bytes ∙ ap (λ (s : List ℕ). front ++ s) (lays room w .1) in
+    let here = ap (cutAt (now (before .rec))) place ∙ ap (λ (s : List ℕ). cutAt s (length front)) there in
+    let found = p .gives .cuts .is ∙ here ∙ written-reads-back front (drop (length (bytesOf e)) buf) e fits in
+    (found, p .gives .moves ∙ ap (placeAfter (before .place)) found)

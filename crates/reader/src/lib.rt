@@ -1,7 +1,7 @@
 // The reader: it keeps the recording it was lent and its place in it, and hands out one event after another. The borrow checker covers no
 // function over a struct that holds a slice, so each is proved by hand; the work is in `reading_at`, which takes the slice and is covered.
 ghost use mathlib.Core.Path.{_≡_};
-ghost use Rattle.reader.specs.Reads.{Reads, readerAt, readingAt};
+ghost use Rattle.reader.specs.Reads.{Reads, ReadsAt, readerOf};
 use recording::Cut;
 
 pub struct Reader<'a> {
@@ -16,7 +16,7 @@ pub struct Reading {
 }
 
 pub fn reading_at(rec: &[u8], place: usize) -> Reading
-    ensures { λ r. ⌜ r ≡ readingAt (now (rec .entry)) place ⌝ }
+    ensures { λ r. ⌜ ReadsAt (now (rec .entry)) place r ⌝ }
 {
     let cut = recording::cut_at(rec, place);
     match cut {
@@ -27,14 +27,14 @@ pub fn reading_at(rec: &[u8], place: usize) -> Reading
 }
 
 impl<'a> Reader<'a> {
-    // Any place may be given, also one beyond the bytes.
-    pub fn new(rec: &'a [u8], place: usize) -> Reader<'a>
-        ensures { λ r. ⌜ r ≡ readerAt (rec .entry) place ⌝ }
+    // The first record stands at byte 6.
+    pub fn new(rec: &'a [u8]) -> Reader<'a>
+        ensures { λ r. ⌜ r ≡ readerOf (rec .entry) ⌝ }
     {
-        Reader { rec, place }
+        Reader { rec, place: 6 }
     }
 
-    // Hands out what stands at the place. The place moves past an event, and not at a refusal or at the end.
+    // Hands out what stands at the place, also beyond the bytes. The place moves past an event, and not at a refusal or at the end.
     pub fn next(&mut self) -> Cut
         ensures { λ r. ⌜ Reads (now (self .entry)) (now (self .exit)) r ⌝ }
     {

@@ -1,19 +1,20 @@
 -- Which answer of the cut is right: one lemma for each case of `cutAt`. `Whole s at e` says by its three rows what a whole record with the
 -- event e at a place is; the cut finds e just where it holds.
 use Prim.Native.Nat.{ℕ, _+_, _*_, _-_, _/_, _^_, _≤_, _<_}
-use mathlib.Core.Path.{_≡_, refl, sym, _∙_}
-use mathlib.Core.Bool.{Bool, true, false, cond, _&&_, _||_}
+use mathlib.Core.Path.{_≡_, refl, sym, ap, subst, _∙_}
+use mathlib.Core.Bool.{Bool, true, false, cond, _&&_, _||_, true≢false}
 use mathlib.Core.List.{List}
 use mathlib.Core.Logic.{_⊎_, inl, inr, ⊎-elim}
 use native.Mathlib.Omega.{arith}
 use native.Mathlib.Nat.{add-assoc}
 use lib.ListN.{length, getD}
 use lib.Dec.{leb, eqb}
-use borrow.Author.Tests.{leb-true, eqb-true, le-leb, lt-leb}
+use borrow.Author.Tests.{leb-true, leb-false, eqb-true, le-leb, lt-leb}
 use Rattle.recording.specs.Numbers.{fourBytes, numberAt}
-use Rattle.recording.specs.Record.{Cuts, cutAt, whole, inTable, eventAt, bytesOf, nextInside}
+use Rattle.recording.specs.Record.{Cuts, cutAnswer, cutAt, readAnswer, whole, inTable, eventAt, bytesOf, nextInside}
 use Rattle.recording.specs.declared.Event.{Event}
 use Rattle.recording.specs.declared.Event.the-variants.{Step, Read, Add}
+use Rattle.recording.specs.declared.Cut.{Cut}
 use Rattle.recording.specs.declared.Cut.the-variants.{Found, Broken, End}
 
 -- a whole record, by its row of the table
@@ -53,7 +54,24 @@ picked true fine e e′ at n n′ h = let z : _≡_ {A = ℕ} 0 1 = cc in absurd
 picked false true e e′ at n n′ h = (refl, cc, cc)
 picked false false e e′ at n n′ h = let z : _≡_ {A = ℕ} 0 1 = cc in absurd (omega arith)
 
+-- the tabled answer of each case
+answered : (ends fine : Bool) (e : Event) (at n : ℕ)
+    → cutAnswer (cond ends End (cond fine (Found e n) (Broken at)))
+    ≡ cond ends (record { number = 0; place = 0 }) (cond fine (record { number = 0; place = n }) (record { number = 6; place = at }))
+unfolding cutAnswer
+answered true fine e at n = refl
+answered false true e at n = refl
+answered false false e at n = refl
+
 module _ (s : List ℕ) (at : ℕ) where
+  -- the case settles the answer
+  pub answer-is : cutAnswer (cutAt s at) ≡ readAnswer s at
+  unfolding cutAt readAnswer
+  answer-is = answered (leb (length s) at) (whole s at) (eventAt s at) at (at + 1 + getD s at 0)
+
+  cuts : {r : Cut} → r ≡ cutAt s at → nextInside at (length s) r → Cuts s at r
+  cuts is inside = record { answer = ap cutAnswer is ∙ answer-is; is = is; inside = inside }
+
   -- a record that rule 6 does not refuse is whole
   is-whole : whole s at ≡ true → Whole s at (eventAt s at)
   unfolding whole eventAt
@@ -93,23 +111,32 @@ module _ (s : List ℕ) (at : ℕ) where
 
   pub ended : length s ≤ at → Cuts s at End
   unfolding cutAt nextInside
-  ended h = record { is = simp (le-leb (length s) at h); inside = h }
+  ended h = cuts (simp (le-leb (length s) at h)) h
 
   pub broken : at < length s → ((e : Event) → Whole s at e → ⊥) → Cuts s at (Broken at)
   unfolding cutAt nextInside
   broken h none =
-      record {
-        is = simp (lt-leb (length s) at h, is-false (whole s at) (λ w. none (eventAt s at) (is-whole w)));
-        inside = omega arith;
-      }
+      cuts (simp (lt-leb (length s) at h, is-false (whole s at) (λ w. none (eventAt s at) (is-whole w)))) (omega arith)
 
   pub cut-found : {e : Event} → Whole s at e → cutAt s at ≡ Found e (at + length (bytesOf e))
   unfolding cutAt
   cut-found w = simp (lt-leb (length s) at (omega (arith, shape w)), whole-is w, event-is w, next-is w)
 
-  pub found : {e : Event} → Whole s at e → Cuts s at (Found e (at + length (bytesOf e)))
+  pub found : {e : Event} {next : ℕ} → Whole s at e → next ≡ at + length (bytesOf e) → Cuts s at (Found e next)
   unfolding nextInside
-  found w = record { is = sym (cut-found w); inside = omega (arith, shape w, next-is w) }
+  found {e} w n = cuts (ap (Found e) n ∙ sym (cut-found w)) (omega (arith, shape w, next-is w))
+
+  -- every place has an answer
+  pub cuts-some : Cuts s at (cutAt s at)
+  cuts-some = go (leb (length s) at) refl (whole s at) refl
+    where
+      same : {r : Cut} → Cuts s at r → Cuts s at (cutAt s at)
+      same c = subst (Cuts s at) (c .is) c
+
+      go : (ends : Bool) → leb (length s) at ≡ ends → (fine : Bool) → whole s at ≡ fine → Cuts s at (cutAt s at)
+      go true e fine f = same (ended (leb-true (length s) at e))
+      go false e true f = same (found (is-whole f) refl)
+      go false e false f = same (broken (leb-false (length s) at e) (λ ev w. true≢false (sym (whole-is w) ∙ f)))
 
   pub found-whole : {e : Event} {next : ℕ} → cutAt s at ≡ Found e next → Whole s at e × (next ≡ at + length (bytesOf e))
   unfolding cutAt

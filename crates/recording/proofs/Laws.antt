@@ -1,20 +1,20 @@
 -- What follows from the definitions alone: the four bytes of a number and back, a record written and read back, a record read and written
--- back, and that each contract leaves one answer.
-use Prim.Native.Nat.{ℕ, zero, suc, _+_, _*_, _/_, _%_, _^_, _≤_, _<_}
+-- back, that each contract leaves one answer, and the two round trips over the contracts.
+use Prim.Native.Nat.{ℕ, zero, suc, _+_, _*_, _-_, _/_, _%_, _^_, _≤_, _<_}
 use mathlib.Core.Path.{_≡_, refl, sym, ap, _∙_}
 use mathlib.Core.Bool.{Bool, true, false, cond}
 use mathlib.Core.List.{List, [], _∷_, _++_}
 use native.Mathlib.Omega.{arith}
 use native.Mathlib.Nat.{add-assoc, add-zero, zero-add}
 use native.Mathlib.Numerals.{add-one}
-use lib.ListN.{length, getD, take, drop, length-append, length-drop, take-append-drop}
-use lib.Seq.{drop-cons, getD-append-seam, getD-append-add}
+use lib.ListN.{length, getD, take, drop, length-append, length-drop}
+use lib.Seq.{drop-cons, take-append-seam, drop-append-seam, getD-append-seam, getD-append-add}
 use lib.Pow.{recompose, mod-pow-add}
 use lib.Dec.{leb}
 use borrow.Author.Tests.{le-leb, leb-true}
 use Rattle.recording.specs.Numbers.{fourBytes, numberAt}
 use Rattle.recording.specs.Record.{Answer, Cuts, EventFits, bytesOf, cutAt}
-use Rattle.recording.specs.Written.{Writes, writeBuffer, writtenAnswer}
+use Rattle.recording.specs.Written.{Writes, writeAnswer, writeBuffer, writtenAnswer}
 use Rattle.recording.specs.declared.Event.{Event}
 use Rattle.recording.specs.declared.Event.the-variants.{Step, Read, Add}
 use Rattle.recording.specs.declared.Cut.{Cut}
@@ -74,13 +74,6 @@ pub written-reads-back : (front rest : List ℕ) (e : Event) → EventFits e
     → cutAt (front ++ (bytesOf e ++ rest)) (length front) ≡ Found e (length front + length (bytesOf e))
 written-reads-back front rest e h = cut-found _ _ (whole-there front rest e h)
 
-pub written-buffer-reads-back : (e : Event) (buf : List ℕ) → length (bytesOf e) ≤ length buf → EventFits e
-    → cutAt (writeBuffer e buf) 0 ≡ Found e (length (bytesOf e))
-unfolding writeBuffer
-written-buffer-reads-back e buf room h =
-    simp (le-leb (length (bytesOf e)) (length buf) room)
-    (simp zero-add at (written-reads-back [] (drop (length (bytesOf e)) buf) e h))
-
 -- ---- read, and written back
 
 -- the n elements from a place on, one by one
@@ -93,10 +86,6 @@ take-from s at zero room = refl
 take-from s at (suc n) room =
     let here : at < length s = omega arith in
     rw (drop-cons s at 0, ← add-one at) (ap (λ l. getD s at 0 ∷ l) (take-from s (at + 1) n (omega arith)))
-
-either : (b : Bool) (x y : List ℕ) → x ≡ y → cond b x y ≡ y
-either true x y h = h
-either false x y h = refl
 
 module _ (s : List ℕ) (bytes : (i : ℕ) → getD s i 0 < 256) where
   pub number-below : (at : ℕ) → numberAt s at < 2 ^ 32
@@ -129,13 +118,6 @@ module _ (s : List ℕ) (bytes : (i : ℕ) → getD s i 0 < 256) where
       → (take (length (bytesOf e)) (drop at s) ≡ bytesOf e) × (next ≡ at + length (bytesOf e))
   read-writes-back at h = (taken at (found-whole s at h .0), found-whole s at h .1)
 
-  pub read-buffer-writes-back : (at : ℕ) {e : Event} {next : ℕ} → cutAt s at ≡ Found e next → writeBuffer e (drop at s) ≡ drop at s
-  unfolding writeBuffer
-  read-buffer-writes-back at {e} h =
-      let n = length (bytesOf e) in
-      either (leb n (length (drop at s))) (bytesOf e ++ drop n (drop at s)) (drop at s)
-      (rw (read-writes-back at h .0) at (take-append-drop n (drop at s)))
-
 -- ---- each contract leaves one answer
 
 pub cuts-one : {s : List ℕ} {at : ℕ} {a b : Cut} → Cuts s at a → Cuts s at b → a ≡ b
@@ -151,6 +133,37 @@ written-injective (NoRoom j) (Laid k) h = absurd (omega (arith, ap (λ (x : Answ
 pub writes-one : {e : Event} {before after after′ : List ℕ} {a b : Written} → Writes e before after a → Writes e before after′ b
     → (a ≡ b) × (after ≡ after′)
 writes-one {a = a} {b = b} p q = (written-injective a b (p .answer ∙ sym (q .answer)), p .buffer ∙ sym (q .buffer))
+
+-- ---- round trips over the contracts: of whatever `write` leaves, and of whatever `cut_at` answers
+
+-- with room: what is answered, and the bytes laid before those that stay
+pub lays : {e : Event} {before after : List ℕ} {r : Written} → length (bytesOf e) ≤ length before → Writes e before after r
+    → (r ≡ Laid (length (bytesOf e))) × (after ≡ bytesOf e ++ drop (length (bytesOf e)) before)
+unfolding writeAnswer writeBuffer writtenAnswer
+lays {e} {before} {after} {r} room w =
+    let fits = le-leb (length (bytesOf e)) (length before) room in
+    (written-injective r (Laid (length (bytesOf e))) (w .answer ∙ simp fits), w .buffer ∙ simp fits)
+
+-- what `write` leaves in a buffer with room is found by `cut_at`, and the next place is what `write` answered
+pub written-is-found : {e : Event} {before after : List ℕ} {r : Written} {c : Cut} → EventFits e → length (bytesOf e) ≤ length before
+    → Writes e before after r → Cuts after 0 c → (r ≡ Laid (length (bytesOf e))) × (c ≡ Found e (length (bytesOf e)))
+written-is-found {e} {before} fits room w cut =
+    let there = written-reads-back [] (drop (length (bytesOf e)) before) e fits in
+    (lays room w .0, rw (lays room w .1) at (cut .is) ∙ simp zero-add at there)
+
+-- an event that `cut_at` found, written into any buffer with room: the recording's bytes from its place to the next, and the others stay
+pub found-is-written : (s : List ℕ) → ((i : ℕ) → getD s i 0 < 256) → {at next : ℕ} {e : Event} → Cuts s at (Found e next)
+    → {before after : List ℕ} {r : Written} → next - at ≤ length before → Writes e before after r
+    → (r ≡ Laid (next - at)) × (take (next - at) after ≡ take (next - at) (drop at s)) × (drop (next - at) after ≡ drop (next - at) before)
+found-is-written s bytes {at} {next} {e} cut {before} {after} {r} room w =
+    let found = read-writes-back s bytes at (sym (cut .is)) in
+    let long : next - at ≡ length (bytesOf e) = omega (arith, found .1) in
+    let laid = lays (rw long at room) w in
+    rw long (
+      laid .0,
+      ap (take (length (bytesOf e))) (laid .1) ∙ take-append-seam (bytesOf e) _ ∙ sym (found .0),
+      ap (drop (length (bytesOf e))) (laid .1) ∙ drop-append-seam (bytesOf e) _,
+    )
 
 -- ---- the buffer keeps its length
 

@@ -57,13 +57,22 @@ cutAnswer (Found e next) = record { number = 0; place = next }
 cutAnswer (Broken at) = record { number = 6; place = at }
 cutAnswer End = record { number = 0; place = 0 }
 
+-- The answer to reading at a place, in those numbers: "with no bytes left, or with a place beyond the lent bytes", the end; for a record that
+-- rule 6 does not refuse the next place; else "6 with that record's offset".
+unfoldable pub readAnswer : List ℕ → ℕ → Answer
+readAnswer s at =
+    cond (leb (length s) at) (record { number = 0; place = 0 })
+    (cond (whole s at) (record { number = 0; place = at + 1 + getD s at 0 })
+    (record { number = 6; place = at }))
+
 -- the next place lies beyond this one and inside the bytes
 unfoldable pub nextInside : ℕ → ℕ → Cut → Type 0
 nextInside at len (Found e next) = (at + 3 ≤ next) × (next ≤ len)
 nextInside at len (Broken place) = place ≤ len
 nextInside at len End = len ≤ at
 
--- what the cut promises of its answer
+-- what the cut promises: its answer in the table's numbers, the case with its event, and that the next place lies inside
 pub record Cuts (s : List ℕ) (at : ℕ) (r : Cut) : Type 0 where
+  pub answer : cutAnswer r ≡ readAnswer s at
   pub is : r ≡ cutAt s at
   pub inside : nextInside at (length s) r

@@ -1,8 +1,8 @@
 -- `reading_at` meets its contract: each arm, at the answer that the pattern took apart.
-use mathlib.Core.Path.{refl, sym, ap}
+use native.Mathlib.Omega.{arith}
 use borrow.Author.Needs.{needs}
 use Rattle.reader.specs.Reads.{placeAfter}
-use Rattle.reader.proofs.Laws.{reading-is}
+use Rattle.reader.proofs.Laws.{reads-at}
 use Rattle.reader.proofs.reading_at.Statement.{statement}
 use Rattle.reader.proofs.reading_at.Tie as tie
 
@@ -20,15 +20,15 @@ enum-told-2 c = search needs
 
 returns : tie.Need-returns
 unfolding placeAfter
-returns c = reading-is _ (rw (c .before .cut .given .1) at (c .before .before .before .cut-at .ensures)) refl
+returns c = reads-at _ (rw (c .before .cut .given .1) at (c .before .before .before .cut-at .ensures)) (omega arith)
 
 returns-2 : tie.Need-returns-2
 unfolding placeAfter
-returns-2 c = reading-is _ (c .before .before .cut-at .ensures) (sym (ap (placeAfter _) (c .enum-told .given .1)))
+returns-2 c = reads-at _ (c .before .before .cut-at .ensures) (rw (c .enum-told .given .1) (omega arith))
 
 returns-3 : tie.Need-returns-3
 unfolding placeAfter
-returns-3 c = reading-is _ (c .before .before .cut-at .ensures) (sym (ap (placeAfter _) (c .enum-told2 .given .1)))
+returns-3 c = reads-at _ (c .before .before .cut-at .ensures) (rw (c .enum-told2 .given .1) (omega arith))
 
 pub reading-at-spec : {M : Type 1} → statement M
 reading-at-spec = tie.close (tie.spec cut-at-requires enum-known-cut enum-told enum-told-2 returns returns-2 returns-3)

@@ -37,14 +37,14 @@ add-t16 c = search needs
 
 returns-3 : tie.Need-returns-3
 unfolding bytesOf
-returns-3 c = found _ _ (step (search needs) (search needs) refl (search needs))
+returns-3 c = found _ _ (step (search needs) (search needs) refl (search needs)) (omega arith)
 
 add-t18 : tie.Need-add-t18
 add-t18 c = search needs
 
 returns-4 : tie.Need-returns-4
 unfolding bytesOf
-returns-4 c = found _ _ (read (search needs) (search needs) refl (search needs))
+returns-4 c = found _ _ (read (search needs) (search needs) refl (search needs)) (omega arith)
 
 returns-5 : tie.Need-returns-5
 returns-5 c = broken _ _ (search needs) (λ e w. omega (arith, shape _ _ w))
@@ -90,7 +90,7 @@ add-t8 c = search needs
 
 returns-9 : tie.Need-returns-9
 unfolding bytesOf fourBytes
-returns-9 c = found _ _ (add (search needs) (search needs) refl (delta-is _ _ ∙ sym (c .number .ensures)) (search needs))
+returns-9 c = found _ _ (add (search needs) (search needs) refl (delta-is _ _ ∙ sym (c .number .ensures)) (search needs)) (omega arith)
 
 pub cut-at-spec : {M : Type 1} → statement M
 cut-at-spec =

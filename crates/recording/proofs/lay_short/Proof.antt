@@ -16,7 +16,7 @@ slice-write-buf-2 : tie.Need-slice-write-buf-2
 slice-write-buf-2 c = simp length-set (omega arith)
 
 slice-write-buf-3 : tie.Need-slice-write-buf-3
-slice-write-buf-3 c = search needs
+slice-write-buf-3 c = simp length-set (omega arith)
 
 same-length : tie.Need-same-length
 same-length c = search needs

@@ -1,5 +1,5 @@
 -- `cut`: 2 ^ p is taken from a number whose digit p is 1.
-use Prim.Native.Nat.{ℕ, _-_, _<_}
+use Prim.Native.Nat.{_<_}
 use mathlib.Core.Bool.{true}
 use mathlib.Core.Path.{_≡_, refl, sym, ap, _∙_}
 use native.Mathlib.Omega.{arith}
@@ -29,8 +29,8 @@ sub-result c =
 
 returns : tie.Need-returns
 returns c =
-    let set = c .before .before .args .set in
-    ap (λ (w : ℕ). isIn (set - w)) (weight _ (below c)) ∙ isIn-without _ _ (is-in c)
+    let a = c .before .before .args in
+    ap isIn (omega (arith, weight (a .p) (below c))) ∙ isIn-without (a .p) (a .set) (is-in c)
 
 returns-2 : tie.Need-returns-2
 returns-2 c = is-without _ _ _ (sym (c .before .has .ensures) ∙ c .if1 .left) (λ q n. refl)

@@ -1,5 +1,5 @@
 -- `put`: a number that names no process, or one that is in the set, changes nothing; else 2 ^ p is added where the digit p is 0.
-use Prim.Native.Nat.{ℕ, _+_}
+use Prim.Native.Nat.{_<_}
 use mathlib.Core.Bool.{false}
 use mathlib.Core.Path.{_≡_, refl, sym, ap, _∙_}
 use native.Mathlib.Omega.{arith}
@@ -11,13 +11,13 @@ use Rattle.sets.proofs.put.Statement.{statement}
 use Rattle.sets.proofs.put.Tie as tie
 
 returns : tie.Need-returns
-returns c = sym (with-beyond _ _ (c .if1 .taken))
+returns c = sym (with-beyond _ _ (omega arith))
 
 has-requires : tie.Need-has-requires
 has-requires c κs = search needs
 
 returns-2 : tie.Need-returns-2
-returns-2 c = is-with _ _ _ (c .before .before .if1 .left) (sym (c .before .has .ensures) ∙ c .if2 .taken) (λ q n. refl)
+returns-2 c = is-with _ _ _ (omega arith) (sym (c .before .has .ensures) ∙ c .if2 .taken) (λ q n. refl)
 
 shl-result : tie.Need-shl-result
 shl-result c = search needs
@@ -25,17 +25,18 @@ shl-result c = search needs
 not-in : (c : tie.Else2) → isIn (c .before .before .before .args .set) (c .before .before .before .args .p) ≡ false
 not-in c = sym (c .before .has .ensures) ∙ c .if2 .left
 
+below : (c : tie.Else2) → c .before .before .before .args .p < 64
+below c = omega (arith, c .before .before .if1 .left)
+
 add-result : tie.Need-add-result
 add-result c =
     let a = c .before .before .before in
-    let below = c .before .before .if1 .left in
-    omega (arith, weight (a .args .p) below, fits 64 (a .args .p) (a .args .set) below (a .fits .set .fits) (not-in c))
+    omega (arith, weight (a .args .p) (below c), fits 64 (a .args .p) (a .args .set) (below c) (a .fits .set .fits) (not-in c))
 
 returns-3 : tie.Need-returns-3
 returns-3 c =
-    let set = c .before .before .before .args .set in
-    let below = c .before .before .if1 .left in
-    ap (λ (w : ℕ). isIn (set + w)) (weight _ below) ∙ isIn-with _ _ below (not-in c)
+    let a = c .before .before .before .args in
+    ap isIn (omega (arith, weight (a .p) (below c))) ∙ isIn-with (a .p) (a .set) (below c) (not-in c)
 
 pub put-spec : {M : Type 1} → statement M
 put-spec = tie.close (tie.spec returns has-requires returns-2 shl-result add-result returns-3)

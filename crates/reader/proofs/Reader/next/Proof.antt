@@ -52,7 +52,7 @@ use denote.Triple.Walked.{says, Stays, stay-ref, walkOf, goes-ref, Walks, ends-a
 use Rattle.recording.specs.declared.Cut.{Cut}
 use Rattle.recording.proofs.Cut as E
 use Rattle.recording.proofs.Cut.Laws as E′
-use Rattle.reader.specs.Reads.{readingAt}
+use Rattle.reader.specs.Reads.{ReadsAt}
 use Rattle.reader.specs.declared.Reader.{Reader}
 use Rattle.reader.specs.declared.Reading.{Reading}
 use Rattle.reader.proofs.Laws.{reads-on}
@@ -119,8 +119,9 @@ module _ {M : Type 1} (𝓤 : URA M) (H : Heap 𝓤) (A : Atoms 𝓤) (W : Given
   abbrev w : Cut → Val
   w c = EL.val E.the-type E′.the-laws c
 
-  abbrev found : Reading
-  found = readingAt (now (h .rec)) (h .place)
+  -- what `reading_at` promises of its result here
+  abbrev Told : Reading → Type 0
+  Told r = ReadsAt (now (h .rec)) (h .place) r
 
   abbrev Clauses-here : Clauses 𝓤 next.ended
   Clauses-here = next.clauses 𝓤 H A at-mem run
@@ -159,8 +160,8 @@ module _ {M : Type 1} (𝓤 : URA M) (H : Heap 𝓤) (A : Atoms 𝓤) (W : Given
       move ! (2 ∷ 0 ∷ []) $ use2 W (raw Asked) asked $ frame ! $ done !)
 
   -- of the callee's `ensured`, the clause alone: it has no `&mut`, so what is said of last values is dropped
-  said : (r : Reading) → ent 𝓤 (Ensured r) (fact 𝓤 (r ≡ found))
-  said r = exE 𝓤 _ (λ ws. snd∗ 𝓤 (sem 𝓤 H A (lasts reading.ended (κ′, tt) vh ws)) (fact 𝓤 (r ≡ found)))
+  said : (r : Reading) → ent 𝓤 (Ensured r) (fact 𝓤 (Told r))
+  said r = exE 𝓤 _ (λ ws. snd∗ 𝓤 (sem 𝓤 H A (lasts reading.ended (κ′, tt) vh ws)) (fact 𝓤 (Told r)))
 
   -- what rec owns is kept, and the place's facts are made anew
   again : (n : ℕ) → n < 2 ^ 64 → ent 𝓤 (sem 𝓤 H A Own) (sem 𝓤 H A (R .own (moved n) (T′.lowered (moved n) ∷ [])))
@@ -174,7 +175,7 @@ module _ {M : Type 1} (𝓤 : URA M) (H : Heap 𝓤) (A : Atoms 𝓤) (W : Given
       ‵ (fobs γ (R .coded .code (moved (r .place)))) ∷ ‵ (fbor κ (Body (mem R) b o γ)) ∷ ‵ (flft κ q) ∷ (‵ (flft κ′ q′) ⊛ ‵ ftrue)
       ∷ ‵ (E.the-row .own (r .cut) (w (r .cut) ∷ [])) ∷ []
 
-  exits : (r : Reading) → r ≡ found → ent 𝓤 (⋆ 𝓤 H A (left r)) (Post (w (r .cut)))
+  exits : (r : Reading) → Told r → ent 𝓤 (⋆ 𝓤 H A (left r)) (Post (w (r .cut)))
   exits r e =
       qed W (left r) ∵
       suffices ! _ (ends-at 𝓤 H A next.ended stayed Clauses-here W (((κ, (κ′, tt)), (q, (q′, tt)), bounds, x, at), tt)
@@ -211,7 +212,7 @@ module _ {M : Type 1} (𝓤 : URA M) (H : Heap 𝓤) (A : Atoms 𝓤) (W : Given
         (and-then ! (load ! (from ! (stop !)) (look ! 9 refl)) (and-then ! (load ! (from ! (stop !)) (look ! 7 refl)) (no-more !))) (λ u.
         use1 W (later (some (λ (r : Reading). ((‵ (flft κ′ q′) ⊛ ‵ ftrue) ⊛ ‵ (S.the-row .own r (u ∷ []))) ⊛ raw (Ensured r)))) (id⊢ 𝓤 _) $
         await ! tt $ pick ! (λ r. split ! $ move ! (1 ∷ []) $
-        use1 W (raw (fact 𝓤 (r ≡ found))) (said r) $ heard ! (r ≡ found) (λ e. split ! $ move ! (1 ∷ []) $
+        use1 W (raw (fact 𝓤 (Told r))) (said r) $ heard ! (Told r) (λ e. split ! $ move ! (1 ∷ []) $
         -- [the result; 'a's token; what a Reader owns; the struct's cell; the open borrow; obs; auth; …; _4; …; _3; …; _2; …; _1; …; room for _0; …]
         peeks ! S.the-row (Is S.the-row) (shows 𝓤 H A S.the-row) r (u ∷ []) (λ is.
         land ! (from ! (stop !)) (init ! 12 refl (LL.lawful S.the-type S′.the-laws 𝓤 H A W .typed r _ is .0)) $
