@@ -89,13 +89,13 @@ runs =
     (reportOf 144 0 (row 0 2 1 1 1 0 4 0 ∷ row 1 3 0 2 3 0 0 0 ∷ row 2 2 1 3 1 0 1 0 ∷ row 3 2 1 4 1 0 2 0 ∷ row 2 2 1 4 1 0 3 0
     ∷ row 3 2 0 3 0 0 0 0 ∷ row 0 2 0 3 0 0 0 0 ∷ []))
     "operations 7 counter 0\n0 read 1 1 1 0 4 0\n1 add 0 2 3 0 0 0\n2 read 1 3 1 0 1 0\n3 read 1 4 1 0 2 0\n2 read 1 4 1 0 3 0\n3 read 0 3 0 0 0 0\n0 read 0 3 0 0 0 0\n"
-    -- h = 3: 7 has second attempts at each level, and at node 3 both fail; 0's store at node 1 takes in all, 5 and 6 never finish
+    -- h = 3: 7 has second attempts at each level, and at node 3 both fail; 6's store at node 1 takes in all three, 5 never goes there
     ∷ acceptance
-    (recordingOf (low 209) 3 (adds 6 1 ∷ adds 7 2 ∷ adds 5 4 ∷ adds 0 8 ∷ times 2 (step 6) ∷ times 2 (step 7) ∷ times 2 (step 5)
-    ∷ times 2 (step 0) ∷ step 6 ∷ step 7 ∷ times 3 (step 6) ∷ times 7 (step 7) ∷ times 4 (step 5) ∷ step 7 ∷ times 4 (step 5)
-    ∷ times 4 (step 7) ∷ times 4 (step 6) ∷ times 3 (step 7) ∷ times 8 (step 0) ∷ step 7 ∷ times 4 (step 0) ∷ times 7 (step 7) ∷ []))
-    (reportOf 84 15 (row 6 3 0 1 10 0 1 0 ∷ row 7 3 1 2 26 0 2 3 ∷ row 5 3 0 3 10 0 3 0 ∷ row 0 3 1 4 14 0 4 0 ∷ []))
-    "operations 4 counter 15\n6 add 0 1 10 0 1 0\n7 add 1 2 26 0 2 3\n5 add 0 3 10 0 3 0\n0 add 1 4 14 0 4 0\n"
+    (recordingOf (low 172) 3 (adds 5 4 ∷ times 6 (step 5) ∷ adds 6 1 ∷ adds 7 2 ∷ times 2 (step 6) ∷ times 2 (step 7) ∷ step 6 ∷ step 7
+    ∷ times 3 (step 6) ∷ times 8 (step 7) ∷ times 4 (step 6) ∷ times 4 (step 7) ∷ times 4 (step 5) ∷ times 4 (step 7) ∷ times 4 (step 6)
+    ∷ times 7 (step 7) ∷ []))
+    (reportOf 64 7 (row 5 3 0 1 10 0 1 0 ∷ row 6 3 1 2 14 0 2 0 ∷ row 7 3 1 3 26 0 3 3 ∷ []))
+    "operations 3 counter 7\n5 add 0 1 10 0 1 0\n6 add 1 2 14 0 2 0\n7 add 1 3 26 0 3 3\n"
     -- h = 3: 4's addition goes up by the stores of 5, 6 and 0, one at each level; a read before the last store answers 0
     ∷ acceptance
     (recordingOf (low 137) 3 (adds 4 1 ∷ times 2 (step 4) ∷ adds 5 2 ∷ times 6 (step 5) ∷ adds 6 4 ∷ times 10 (step 6) ∷ adds 0 8
@@ -127,9 +127,6 @@ refusals =
     ∷ refusal (1 ∷ 0 ∷ 0 ∷ 0 ∷ 2 ∷ 1 ∷ []) 3 0 "refused 3 0\n"
     ∷ refusal (1 ∷ 0 ∷ 0 ∷ 0 ∷ 0 ∷ 1 ∷ []) 3 0 "refused 3 0\n"
     ∷ refusal (1 ∷ 0 ∷ 0 ∷ 0 ∷ 2 ∷ 7 ∷ []) 3 0 "refused 3 0\n"
-    -- 65,536 bytes pass rule 4, and the first record is refused; 65,537 are answered by 4
-    ∷ refusal (long (0 ∷ 0 ∷ 255 ∷ 251 ∷ []) 1 65530) 6 6 "refused 6 6\n"
-    ∷ refusal (long (0 ∷ 0 ∷ 255 ∷ 252 ∷ []) 1 65531) 4 0 "refused 4 0\n"
     -- 5 before 6
     ∷ refusal (long (low 2) 7 1) 5 0 "refused 5 0\n"
     -- k is 0, or in no pair of the table; 6 before 7 and before 9
@@ -159,6 +156,13 @@ refusals =
     -- the first record that is refused: 9 before a later 6, 8 before a later 7
     ∷ refusal (recording 5 (step 0 ∷ (9 ∷ []) ∷ [])) 9 6 "refused 9 6\n"
     ∷ refusal (recording 10 (reads 0 ∷ reads 0 ∷ reads 9 ∷ [])) 8 9 "refused 8 9\n"
+    ∷ []
+
+-- 65,536 bytes pass rule 4, and the first record is refused; 65,537 are answered by 4
+unfoldable pub longest : List Case
+longest =
+    refusal (long (0 ∷ 0 ∷ 255 ∷ 251 ∷ []) 1 65530) 6 6 "refused 6 6\n"
+    ∷ refusal (long (0 ∷ 0 ∷ 255 ∷ 252 ∷ []) 1 65531) 4 0 "refused 4 0\n"
     ∷ []
 
 -- with room for seven rows and eleven bytes more
