@@ -158,13 +158,6 @@ refusals =
     ∷ refusal (recording 10 (reads 0 ∷ reads 0 ∷ reads 9 ∷ [])) 8 9 "refused 8 9\n"
     ∷ []
 
--- 65,536 bytes pass rule 4, and the first record is refused; 65,537 are answered by 4
-unfoldable pub longest : List Case
-longest =
-    refusal (long (0 ∷ 0 ∷ 255 ∷ 251 ∷ []) 1 65530) 6 6 "refused 6 6\n"
-    ∷ refusal (long (0 ∷ 0 ∷ 255 ∷ 252 ∷ []) 1 65531) 4 0 "refused 4 0\n"
-    ∷ []
-
 -- with room for seven rows and eleven bytes more
 unfoldable pub definedWide : Case → Seen
 definedWide = definedIn (replicate 160 238)

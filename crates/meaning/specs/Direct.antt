@@ -21,8 +21,9 @@ use Rattle.meaning.specs.Tree.{processes, leafOf, left, right, parent, a
 use Rattle.meaning.specs.Run.{Row, State, Outcome, refused, accepted, initial, busy, newRow, start, recordRefusal, outcome}
 use Rattle.meaning.specs.Alone.{alone}
 use Rattle.meaning.specs.Plain.{numberAfter, runDown, upTo, timesIn}
-use Rattle.meaning.specs.Printed.{text, decimal}
+use Rattle.meaning.specs.Printed.{text, decimal, printed}
 use Rattle.meaning.specs.Starred.{times, step, reads, adds, recording}
+use Rattle.meaning.specs.Cases.{long}
 
 -- what the definitions give, and what the document says
 pub record Pair : Type 0 where
@@ -197,10 +198,8 @@ ofWriter =
 
 unfoldable pub ofRun : List Pair
 ofRun =
-    -- version 2 before 65,537 bytes; 65,537 bytes before L; L's four bytes
-    (headRefusal (2 ∷ replicate 65536 0) ∷ [] is 2 ∷ [])
-    ∷ (headRefusal (1 ∷ replicate 65536 0) ∷ [] is 4 ∷ [])
-    ∷ (headRefusal (1 ∷ 1 ∷ 0 ∷ 0 ∷ 1 ∷ 1 ∷ []) ∷ headRefusal (1 ∷ 0 ∷ 1 ∷ 0 ∷ 1 ∷ 1 ∷ []) ∷ [] is 3 ∷ 3 ∷ [])
+    -- L's four bytes
+    (headRefusal (1 ∷ 1 ∷ 0 ∷ 0 ∷ 1 ∷ 1 ∷ []) ∷ headRefusal (1 ∷ 0 ∷ 1 ∷ 0 ∷ 1 ∷ 1 ∷ []) ∷ [] is 3 ∷ 3 ∷ [])
     -- the tree of 8 processes
     ∷ (processes 3 ∷ leafOf 3 5 ∷ left 5 ∷ right 5 ∷ parent 10 ∷ parent 11 ∷ root ∷ [] is 8 ∷ 13 ∷ 10 ∷ 11 ∷ 5 ∷ 5 ∷ 1 ∷ [])
     ∷ (ancestor 0 13 ∷ ancestor 1 13 ∷ ancestor 2 13 ∷ ancestor 3 13 ∷ [] is 13 ∷ 6 ∷ 3 ∷ 1 ∷ [])
@@ -233,3 +232,13 @@ ofList =
 
 unfoldable pub pairs : List Pair
 pairs = ofSets ++ (ofCells ++ (ofRecords ++ (ofWriter ++ (ofRun ++ ofList))))
+
+-- ---- the longest recordings, which take a second to compute
+
+unfoldable pub ofLength : List Pair
+ofLength =
+    -- 65,536 bytes pass; version 2 before 65,537 bytes
+    (headRefusal (long (0 ∷ 0 ∷ 255 ∷ 251 ∷ []) 1 65530) ∷ headRefusal (2 ∷ replicate 65536 0) ∷ [] is 0 ∷ 2 ∷ [])
+    -- 65,537 bytes with a false L; of which the program takes in all
+    ∷ (printed (1 ∷ replicate 65536 0) is text "refused 4 0\n")
+    ∷ []
