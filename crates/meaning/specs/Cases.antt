@@ -190,29 +190,22 @@ documentedGiven c =
       buffer = c .report ++ drop (length (c .report)) (replicate (c .room) 238);
     }
 
+abbrev pub laid : List ℕ → ℕ → List ℕ → Lent
+laid s room r = record { input = s; room = room; number = 0; place = 0; report = r }
+
+abbrev pub unlaid : List ℕ → ℕ → ℕ → ℕ → Lent
+unlaid s room k at = record { input = s; room = room; number = k; place = at; report = [] }
+
 unfoldable pub rooms : List Lent
 rooms =
     -- no operation: 9 bytes, 8 bytes, none
-    record { input = recording 1 []; room = 9; number = 0; place = 0; report = reportOf 4 0 [] }
-    ∷ record { input = recording 1 []; room = 8; number = 11; place = 9; report = [] }
-    ∷ record { input = recording 1 []; room = 0; number = 11; place = 9; report = [] }
-    -- two operations: 49 bytes, 48, 50
-    ∷ record {
-      input = recording 7 (reads 0 ∷ reads 1 ∷ []);
-      room = 49;
-      number = 0;
-      place = 0;
-      report = reportOf 44 0 (row 0 2 0 1 0 0 0 0 ∷ row 1 2 0 2 0 0 0 0 ∷ []);
-    }
-    ∷ record { input = recording 7 (reads 0 ∷ reads 1 ∷ []); room = 48; number = 11; place = 49; report = [] }
-    ∷ record {
-      input = recording 7 (reads 0 ∷ reads 1 ∷ []);
-      room = 50;
-      number = 0;
-      place = 0;
-      report = reportOf 44 0 (row 0 2 0 1 0 0 0 0 ∷ row 1 2 0 2 0 0 0 0 ∷ []);
-    }
+    laid (recording 1 []) 9 (reportOf 4 0 [])
+    ∷ unlaid (recording 1 []) 8 11 9
+    ∷ unlaid (recording 1 []) 0 11 9
+    -- two operations: 49 bytes, 48
+    ∷ laid (recording 7 (reads 0 ∷ reads 1 ∷ [])) 49 (reportOf 44 0 (row 0 2 0 1 0 0 0 0 ∷ row 1 2 0 2 0 0 0 0 ∷ []))
+    ∷ unlaid (recording 7 (reads 0 ∷ reads 1 ∷ [])) 48 11 49
     -- 11 is tried last: a header and a record that are refused
-    ∷ record { input = []; room = 0; number = 1; place = 0; report = [] }
-    ∷ record { input = recording 4 (step 0 ∷ []); room = 3; number = 9; place = 6; report = [] }
+    ∷ unlaid [] 0 1 0
+    ∷ unlaid (recording 4 (step 0 ∷ [])) 3 9 6
     ∷ []

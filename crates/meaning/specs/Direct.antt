@@ -18,7 +18,8 @@ use Rattle.recording.specs.declared.Cut.the-variants.{Found, Broken, End}
 use Rattle.recording.specs.declared.Written.the-variants.{Laid, NoRoom}
 use Rattle.meaning.specs.Layout.{headRefusal}
 use Rattle.meaning.specs.Tree.{processes, leafOf, left, right, parent, ancestor, root}
-use Rattle.meaning.specs.Run.{Row, State, Outcome, refused, accepted, initial, busy, newRow, start, recordRefusal, outcome}
+use Rattle.meaning.specs.Access.{Access, first, second, starts, readsRoot, readsLeaf, writesLeaf, links, readsLeft, readsRight, stores, isRootRead, isLeafWrite, isReadOf, isStoreAt, isSecondLink}
+use Rattle.meaning.specs.Run.{Entry, Row, State, Outcome, refused, accepted, initial, busy, newRow, start, recordRefusal, outcome}
 use Rattle.meaning.specs.Alone.{alone}
 use Rattle.meaning.specs.Plain.{numberAfter, runDown, upTo, timesIn}
 use Rattle.meaning.specs.Printed.{text, decimal, printed}
@@ -83,6 +84,16 @@ abbrev pub spans : ℕ → State → List ℕ
 spans zero st = []
 spans (suc k) st = spans k st ++ (st .row k .delta ∷ st .row k .started ∷ st .row k .ended ∷ [])
 
+-- which of the accesses, by their places from 0, a question is true of
+abbrev pub tells : ℕ → (Access → Bool) → List Access → List ℕ
+tells k ask [] = []
+tells k ask (a ∷ rest) = cond (ask a) (k ∷ []) [] ++ tells (suc k) ask rest
+
+-- of each entry its process, its operation, and whether it is an SC that succeeded
+abbrev pub entries : List Entry → List ℕ
+entries [] = []
+entries (e ∷ es) = (e .process ∷ e .operation ∷ digit (e .stored) ∷ []) ++ entries es
+
 -- whether process 0 is busy, operation 0's steps, all records
 abbrev pub stepped : State → List ℕ
 stepped st = digit (busy (st .process) 0) ∷ st .row 0 .steps ∷ length (st .history) ∷ []
@@ -92,6 +103,21 @@ stepped st = digit (busy (st .process) 0) ∷ st .row 0 .steps ∷ length (st .h
 -- a read by 7, an addition of 16,909,060 by 9, a step of 255: records at 0, 3 and 10 of 13 bytes
 abbrev pub three : List ℕ
 three = 2 ∷ 2 ∷ 7 ∷ 6 ∷ 3 ∷ 9 ∷ 1 ∷ 2 ∷ 3 ∷ 4 ∷ 2 ∷ 1 ∷ 255 ∷ []
+
+-- a start and each access at node 2, whose children are 4 and 5
+abbrev pub each : List Access
+each =
+    starts
+    ∷ readsRoot
+    ∷ readsLeaf 4
+    ∷ writesLeaf 4
+    ∷ links first 2
+    ∷ links second 2
+    ∷ readsLeft 2
+    ∷ readsRight 2
+    ∷ stores first 2
+    ∷ stores second 2
+    ∷ []
 
 -- the state before any record, but for the number of operations
 abbrev pub counted : ℕ → State
@@ -217,6 +243,21 @@ ofRun =
     ∷ (stepped (alone 1 0 10 afterF) is 0 ∷ 6 ∷ 14 ∷ [])
     ∷ []
 
+unfoldable pub ofHistory : List Pair
+ofHistory =
+    (tells 0 isRootRead each is 1 ∷ [])
+    ∷ (tells 0 isLeafWrite each is 3 ∷ [])
+    ∷ (tells 0 (isReadOf 4) each is 6 ∷ [])
+    ∷ (tells 0 (isReadOf 5) each is 7 ∷ [])
+    ∷ (tells 0 (isReadOf 2) each is [])
+    ∷ (tells 0 (isStoreAt 2) each is 8 ∷ 9 ∷ [])
+    ∷ (tells 0 (isStoreAt 4) each is [])
+    ∷ (tells 0 isSecondLink each is 5 ∷ [])
+    -- the latest first: 0's leaf read, its start as operation 1, 1's start as operation 0
+    ∷ (entries (stateAfter (outcome (recording 14 (reads 1 ∷ adds 0 5 ∷ step 0 ∷ []))) .history)
+    is 0 ∷ 1 ∷ 0 ∷ 0 ∷ 1 ∷ 0 ∷ 1 ∷ 0 ∷ 0 ∷ [])
+    ∷ []
+
 -- "One plain number from 0, run down that list modulo 2^32"; the texts
 unfoldable pub ofList : List Pair
 ofList =
@@ -231,7 +272,7 @@ ofList =
     ∷ []
 
 unfoldable pub pairs : List Pair
-pairs = ofSets ++ (ofCells ++ (ofRecords ++ (ofWriter ++ (ofRun ++ ofList))))
+pairs = ofSets ++ (ofCells ++ (ofRecords ++ (ofWriter ++ (ofRun ++ (ofHistory ++ ofList)))))
 
 -- ---- the longest recordings, which take a second to compute
 
