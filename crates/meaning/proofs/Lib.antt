@@ -1,1 +1,4 @@
 pub mod Starred
+pub mod Cases
+pub mod Direct
+pub mod Long

@@ -9,4 +9,6 @@ pub mod TakenIn
 pub mod Report
 pub mod Printed
 pub mod Starred
+pub mod Cases
 pub mod Plain
+pub mod Direct

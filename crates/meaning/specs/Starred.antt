@@ -32,25 +32,38 @@ step p = 2 ∷ 1 ∷ p ∷ []
 unfoldable pub reads : ℕ → List ℕ
 reads p = 2 ∷ 2 ∷ p ∷ []
 
-unfoldable pub adds : ℕ → ℕ → List ℕ
-adds p d = 6 ∷ 3 ∷ p ∷ 0 ∷ 0 ∷ 0 ∷ d ∷ []
+-- a number below 256, in four bytes
+abbrev pub low : ℕ → List ℕ
+low b = 0 ∷ 0 ∷ 0 ∷ b ∷ []
 
--- version 1, L below 256, height 1
+-- the delta's four bytes are given
+abbrev pub addsOf : ℕ → List ℕ → List ℕ
+addsOf p delta = 6 ∷ 3 ∷ p ∷ delta
+
+unfoldable pub adds : ℕ → ℕ → List ℕ
+adds p d = addsOf p (low d)
+
+-- version 1, L's four bytes, the height
+abbrev pub recordingOf : List ℕ → ℕ → List (List ℕ) → List ℕ
+recordingOf len h records = 1 ∷ len ++ (h ∷ join records)
+
 unfoldable pub recording : ℕ → List (List ℕ) → List ℕ
-recording len records = (1 ∷ 0 ∷ 0 ∷ 0 ∷ len ∷ 1 ∷ []) ++ join records
+recording len = recordingOf (low len) 1
+
+-- version 1, the four bytes of the length and of the counter
+abbrev pub reportWith : List ℕ → List ℕ → List (List ℕ) → List ℕ
+reportWith len counter rows = 1 ∷ len ++ (counter ++ join rows)
 
 unfoldable pub reportOf : ℕ → ℕ → List (List ℕ) → List ℕ
-reportOf len counter rows = (1 ∷ 0 ∷ 0 ∷ 0 ∷ len ∷ 0 ∷ 0 ∷ 0 ∷ counter ∷ []) ++ join rows
+reportOf len counter = reportWith (low len) (low counter)
 
--- process, kind, finished, contention; steps, answer, rank, second attempts, each below 256
+-- process, kind, finished, contention; steps, the answer's four bytes, rank, second attempts
+abbrev pub rowOf : ℕ → ℕ → ℕ → ℕ → ℕ → List ℕ → ℕ → ℕ → List ℕ
+rowOf p kind finished contention steps answer rank seconds =
+    (p ∷ kind ∷ finished ∷ contention ∷ []) ++ (low steps ++ (answer ++ (low rank ++ low seconds)))
+
 unfoldable pub row : ℕ → ℕ → ℕ → ℕ → ℕ → ℕ → ℕ → ℕ → List ℕ
-row p kind finished contention steps answer rank seconds =
-    p ∷ kind ∷ finished ∷ contention
-    ∷ 0 ∷ 0 ∷ 0 ∷ steps
-    ∷ 0 ∷ 0 ∷ 0 ∷ answer
-    ∷ 0 ∷ 0 ∷ 0 ∷ rank
-    ∷ 0 ∷ 0 ∷ 0 ∷ seconds
-    ∷ []
+row p kind finished contention steps answer = rowOf p kind finished contention steps (low answer)
 
 unfoldable pub refusal : List ℕ → ℕ → ℕ → String → Case
 refusal s k at t = record { input = s; number = k; place = at; report = []; says = t }
@@ -94,7 +107,7 @@ cases =
     -- E: the sum wraps
     ∷ acceptance
     (recording 51
-    ((6 ∷ 3 ∷ 0 ∷ 255 ∷ 255 ∷ 255 ∷ 255 ∷ []) ∷ times 6 (step 0) ∷ adds 0 2 ∷ times 6 (step 0) ∷ []))
+    (addsOf 0 (255 ∷ 255 ∷ 255 ∷ 255 ∷ []) ∷ times 6 (step 0) ∷ adds 0 2 ∷ times 6 (step 0) ∷ []))
     (reportOf 44 1 (row 0 3 1 1 6 0 1 0 ∷ row 0 3 1 1 6 0 2 0 ∷ []))
     "operations 2 counter 1\n0 add 1 1 6 0 1 0\n0 add 1 1 6 0 2 0\n"
     -- F: 0 stops after its leaf write, and 1's store takes its addition in
@@ -112,24 +125,31 @@ pub record Seen : Type 0 where
   pub buffer : List ℕ
   pub says : List ℕ
 
+-- with a lent buffer that has room enough
+abbrev pub definedIn : List ℕ → Case → Seen
+definedIn buf c =
+    record {
+      check = checkAnswer (c .input);
+      answer = reportAnswer (c .input) buf;
+      buffer = reportBuffer (c .input) buf;
+      says = printed (c .input);
+    }
+
+abbrev pub documentedIn : List ℕ → Case → Seen
+documentedIn buf c =
+    record {
+      check = record { number = c .number; place = c .place };
+      answer = record { number = c .number; place = c .place };
+      buffer = c .report ++ drop (length (c .report)) buf;
+      says = text (c .says);
+    }
+
 -- a buffer with room for three rows and eleven bytes more
 unfoldable pub lent : List ℕ
 lent = replicate 80 238
 
 unfoldable pub defined : Case → Seen
-defined c =
-    record {
-      check = checkAnswer (c .input);
-      answer = reportAnswer (c .input) lent;
-      buffer = reportBuffer (c .input) lent;
-      says = printed (c .input);
-    }
+defined = definedIn lent
 
 unfoldable pub documented : Case → Seen
-documented c =
-    record {
-      check = record { number = c .number; place = c .place };
-      answer = record { number = c .number; place = c .place };
-      buffer = c .report ++ drop (length (c .report)) lent;
-      says = text (c .says);
-    }
+documented = documentedIn lent
