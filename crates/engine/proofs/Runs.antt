@@ -223,7 +223,7 @@ unfolding keptOf memoryOf asFun root
 ends-accepted s h at vals links ps set₀ m asked counts writes read queue turns rows l K e r a b c d =
     let R = K .runs in
     subst (Ends asked h (length s) (asFun rows) r) (sym (runs-end s h at vals links ps set₀ m R e))
-    (accepts a b (c ∙ R .agrees .operations) (d ∙ ap (λ (x : Memory). x .value 1) (R .agrees .memory)) (R .agrees .good .few) (omega (arith, R .agrees .operations, R .agrees .started, R .within)) (λ t. K .ledger t .keeps .rows) (λ i x. R .agrees .good .fits i))
+    (accepts a b (c ∙ R .agrees .operations) (d ∙ ap (λ (x : Memory). x .value 1) (R .agrees .memory)) (R .agrees .good .few) (omega (arith, R .agrees .operations, R .agrees .started, R .within)) (λ t. K .ledger t .keeps .rows))
 
 pub ends-refused : (asked : Bool) (h size : ℕ) (rows : ℕ → ℕ) (o : Outcome) (number place : ℕ) (r : Ended) → (o ≡ refused (record { number = number; place = place })) × (1 ≤ number)
     → Refuses number place r → Ends asked h size rows r o

@@ -2,11 +2,11 @@
 use mathlib.Core.Path.{refl, sym}
 use Rattle.meaning.specs.Layout.{height}
 use Rattle.rules.proofs.Laws.{header-passes}
-use Rattle.engine.proofs.Answers.{head-passed, report-refused, report-short, report-laid, few-operations}
+use Rattle.entries.proofs.Answers.{head-passed, report-refused, report-short, report-laid, few-operations}
 use native.Mathlib.Omega.{arith}
 use borrow.Author.Needs.{needs}
-use Rattle.engine.proofs.report_in.Statement.{statement}
-use Rattle.engine.proofs.report_in.Tie as tie
+use Rattle.entries.proofs.report_in.Statement.{statement}
+use Rattle.entries.proofs.report_in.Tie as tie
 
 shared-slice-read-run : tie.Need-shared-slice-read-run
 shared-slice-read-run c =

@@ -10,8 +10,8 @@ use Rattle.recording.specs.Record.{Answer}
 use Rattle.meaning.specs.Layout.{Records, end, broken, event, headRefusal, height, recordsOf}
 use Rattle.meaning.specs.Run.{State, initial, takeEvent, recordRefusal, Outcome, refused, accepted, unless, run, outcome}
 use Rattle.meaning.specs.Report.{needed, passes, answerWith, reportAnswer, checkWith, checkAnswer}
-use Rattle.engine.specs.Ends.{answerOf, Reports}
-use Rattle.engine.specs.declared.Reply.{Reply}
+use Rattle.entries.specs.Promises.{answerOf, Reports}
+use Rattle.entries.specs.declared.Reply.{Reply}
 
 -- ---- one outcome
 
