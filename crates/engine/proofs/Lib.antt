@@ -5,3 +5,4 @@ pub mod Runs
 pub mod Fresh
 pub mod Loop
 pub mod Accepted
+pub mod Laws

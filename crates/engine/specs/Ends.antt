@@ -25,14 +25,16 @@ deltaOf (Step p) = 0
 deltaOf (Read p) = 0
 deltaOf (Add p d) = d
 
--- a run that ends with a refusal
+-- a run that ends with a refusal, and then tells nothing else
 pub record Refuses (number place : ℕ) (r : Ended) : Type 0 where
   pub its : r .number ≡ number
   pub there : r .place ≡ place
+  pub operations : r .operations ≡ 0
+  pub counter : r .counter ≡ 0
 
 -- A run over so many bytes ends as the definition's: with the refusal, or with the counter, the operations and, where a report is asked for, their rows' numbers.
 pub data Ends (asked : Bool) (h size : ℕ) (rows : ℕ → ℕ) (r : Ended) : Outcome → Type 0 where
-  refuses : {a : Answer} → r .number ≡ a .number → r .place ≡ a .place → 1 ≤ a .number → Ends asked h size rows r (refused a)
+  refuses : {a : Answer} → Refuses (a .number) (a .place) r → 1 ≤ a .number → Ends asked h size rows r (refused a)
   accepts : {st : State} → r .number ≡ 0 → r .place ≡ 0 → r .operations ≡ st .operations → r .counter ≡ st .memory .value root → st .operations ≤ 1024 → 3 * st .operations + 6 ≤ size
       → (asked ≡ true → (i j : ℕ) → i < st .operations → j < 5 → rows (5 * i + j) ≡ getD (rowNumbers (st .row i) (rank h (st .history) i)) j 0) → Ends asked h size rows r (accepted st)
 

@@ -134,11 +134,12 @@ pub fn run(
     loop {
         match try_at(s, h, busy, m, at) {
             Tried::End => {
+                let counter = vals[1];
                 return Ended {
                     number: 0,
                     place: 0,
                     operations: m,
-                    counter: vals[1],
+                    counter,
                 };
             }
             Tried::Refused(number, place) => {

@@ -57,23 +57,18 @@ fn report_in(
     ensures { λ r. ⌜ Reports (now (s .entry)) (now (out .entry)) (now (out .exit)) r ⌝ }
 {
     let e = engine::run(s, s[5] as u32, true, read, queue, turns, rows);
-    if e.number != 0 {
-        return Reply {
-            number: e.number,
-            place: e.place,
-        };
-    }
     let m = e.operations as usize;
-    if out.len() < 9 + 20 * m {
-        return Reply {
-            number: 11,
-            place: (9 + 20 * m) as u32,
-        };
+    let needed = 9 + 20 * m;
+    if e.number == 0 {
+        if out.len() < needed {
+            let place = needed as u32;
+            return Reply { number: 11, place };
+        }
+        rows::lay_report(out, m, e.counter, rows);
     }
-    rows::lay_report(out, m, e.counter, rows);
     Reply {
-        number: 0,
-        place: 0,
+        number: e.number,
+        place: e.place,
     }
 }
 

@@ -21,6 +21,19 @@ unfolding height
 run-requires c κs =
     let w = header-passes _ ((c .before .before .before .before .before .before .before .before .before .before .pre) .0) in (w .high, w .low, w .enough, w .short, λ a. (c .before .before .before .before .before .before .before .before .before .before .pre) .1)
 
+cast-m : tie.Need-cast-m
+cast-m c = search needs
+
+mul-needed : tie.Need-mul-needed
+mul-needed c = search needs
+
+add-needed : tie.Need-add-needed
+add-needed c = search needs
+
+cast-place : tie.Need-cast-place
+cast-place c =
+    omega (arith, few-operations _ _ _ _ (header-passes _ ((c .before .before .before .before .before .before .before .before .before .before .before .before .before .before .before .before .before .before .before .before .before .before .pre) .0) .enough) ((c .before .before .before .before .before .before .before .before .before .before .before .run) .ensures))
+
 same-length : tie.Need-same-length
 same-length c = search needs
 
@@ -36,25 +49,13 @@ same-length-4 c = search needs
 returns : tie.Need-returns
 unfolding height
 returns c =
-    report-refused _ _ _ _ _ _ refl (head-passed _ _ (sym ((c .before .before .before .before .before .before .before .before .before .before .before .before .before .before .before .before .before .before .before .before .pre) .0)) refl) ((c .before .before .before .before .before .before .before .before .before .run) .ensures) ((c .if1) .taken)
+    report-short _ _ _ _ _ _ refl (head-passed _ _ (sym ((c .before .before .before .before .before .before .before .before .before .before .before .before .before .before .before .before .before .before .before .before .before .before .pre) .0)) refl) ((c .before .before .before .before .before .before .before .before .before .before .before .run) .ensures) (omega (arith, (c .before .if1) .taken)) (omega (arith, (c .if2) .taken))
 
-cast-m : tie.Need-cast-m
-cast-m c = search needs
-
-mul-if2 : tie.Need-mul-if2
-mul-if2 c = search needs
-
-add-if2 : tie.Need-add-if2
-add-if2 c = search needs
-
-mul-t24 : tie.Need-mul-t24
-mul-t24 c = search needs
-
-add-t25 : tie.Need-add-t25
-add-t25 c = search needs
-
-cast-t26 : tie.Need-cast-t26
-cast-t26 c = omega (arith, few-operations _ _ _ _ ((c .before .before .before .before .before .before .before .before .before .before .before .run) .ensures) ((c .before .before .if1) .left))
+lay-report-requires : tie.Need-lay-report-requires
+lay-report-requires c κs =
+    let room = (c .before .before .before .before .before .before .before .before .before .before .before .before .before .before .before .before .before .before .before .before .before .before .before .before .pre) .1 in
+    let f = few-operations _ _ _ _ (header-passes _ ((c .before .before .before .before .before .before .before .before .before .before .before .before .before .before .before .before .before .before .before .before .before .before .before .before .pre) .0) .enough) ((c .before .before .before .before .before .before .before .before .before .before .before .before .before .run) .ensures) in
+    (omega (arith, f .0), omega (arith, (c .before .before .before .before .before .before .before .before .before .before .before .before .before .run) .kept, room .sizes .rowsFit, room .operations _ (f .0) (f .1)), omega (arith, (c .before .before .if2) .left))
 
 same-length-5 : tie.Need-same-length-5
 same-length-5 c = search needs
@@ -68,19 +69,13 @@ same-length-7 c = search needs
 same-length-8 : tie.Need-same-length-8
 same-length-8 c = search needs
 
+same-length-9 : tie.Need-same-length-9
+same-length-9 c = search needs
+
 returns-2 : tie.Need-returns-2
 unfolding height
 returns-2 c =
-    report-short _ _ _ _ _ _ refl (head-passed _ _ (sym ((c .before .before .before .before .before .before .before .before .before .before .before .before .before .before .before .before .before .before .before .before .before .before .pre) .0)) refl) ((c .before .before .before .before .before .before .before .before .before .before .before .run) .ensures) ((c .before .before .if1) .left) ((c .if2) .taken)
-
-lay-report-requires : tie.Need-lay-report-requires
-lay-report-requires c κs =
-    let f = few-operations _ _ _ _ ((c .before .before .before .before .before .before .before .before .before .before .before .before .before .run) .ensures) ((c .before .before .before .before .if1) .left) in
-    let room = (c .before .before .before .before .before .before .before .before .before .before .before .before .before .before .before .before .before .before .before .before .before .before .before .before .pre) .1 in
-    (f .0, omega (arith, (c .before .before .before .before .before .before .before .before .before .before .before .before .before .run) .kept, room .sizes .rowsFit, room .operations _ (f .0) (f .1)), (c .before .before .if2) .left)
-
-same-length-9 : tie.Need-same-length-9
-same-length-9 c = search needs
+    report-laid _ _ _ _ _ _ refl _ (head-passed _ _ (sym ((c .before .before .before .before .before .before .before .before .before .before .before .before .before .before .before .before .before .before .before .before .before .before .before .before .before .before .before .pre) .0)) refl) ((c .before .before .before .before .before .before .before .before .before .before .before .before .before .before .before .before .run) .ensures) (omega (arith, (c .before .before .before .before .before .before .if1) .taken)) (omega (arith, (c .before .before .before .before .before .if2) .left)) ((c .before .before .lay-report) .ensures)
 
 same-length-10 : tie.Need-same-length-10
 same-length-10 c = search needs
@@ -97,7 +92,7 @@ same-length-13 c = search needs
 returns-3 : tie.Need-returns-3
 unfolding height
 returns-3 c =
-    report-laid _ _ _ _ _ _ refl _ (head-passed _ _ (sym ((c .before .before .before .before .before .before .before .before .before .before .before .before .before .before .before .before .before .before .before .before .before .before .before .before .before .before .before .pre) .0)) refl) ((c .before .before .before .before .before .before .before .before .before .before .before .before .before .before .before .before .run) .ensures) ((c .before .before .before .before .before .before .before .if1) .left) ((c .before .before .before .before .before .if2) .left) ((c .before .before .lay-report) .ensures)
+    report-refused _ _ _ _ _ _ refl (head-passed _ _ (sym ((c .before .before .before .before .before .before .before .before .before .before .before .before .before .before .before .before .before .before .before .before .before .pre) .0)) refl) ((c .before .before .before .before .before .before .before .before .before .before .run) .ensures) (λ z. omega (arith, (c .if1) .left))
 
 pub report-in-spec : {M : Type 1} → statement M
 report-in-spec =
@@ -106,24 +101,22 @@ report-in-spec =
     shared-slice-read-run
     cast-run
     run-requires
+    cast-m
+    mul-needed
+    add-needed
+    cast-place
     same-length
     same-length-2
     same-length-3
     same-length-4
     returns
-    cast-m
-    mul-if2
-    add-if2
-    mul-t24
-    add-t25
-    cast-t26
+    lay-report-requires
     same-length-5
     same-length-6
     same-length-7
     same-length-8
-    returns-2
-    lay-report-requires
     same-length-9
+    returns-2
     same-length-10
     same-length-11
     same-length-12
