@@ -18,9 +18,9 @@ use Rattle.ledger.proofs.Kept.{position-le}
 use Rattle.counter.proofs.Number.{run-same}
 use Rattle.counter.proofs.Lists.{mem-up-to, times-not, times-once}
 use Rattle.counter.proofs.Told.{Told}
-use Rattle.engine.specs.Ends.{answerOf, Reports}
-use Rattle.engine.specs.declared.Reply.{Reply}
-use Rattle.engine.proofs.Laws.{refusal-positive}
+use Rattle.entries.specs.Promises.{answerOf, Reports}
+use Rattle.entries.specs.declared.Reply.{Reply}
+use Rattle.entries.proofs.Laws.{refusal-positive}
 use Rattle.demand.specs.Demand3.{Demand3}
 use Rattle.demand.specs.ReadBack.{operationsIn, counterIn, processIn, kindIn, finishedIn, stepsIn, answerIn, rankIn, secondsIn, listIn, startRow, startIn, operationsBy, ReadBack}
 use Rattle.demand.proofs.Holds.{carried, demand-3}

@@ -9,6 +9,7 @@ use Rattle.recording.specs.declared.Event.{Event}
 use Rattle.meaning.specs.Layout.{Records, end, broken, event, headRefusal, height, recordsOf}
 use Rattle.meaning.specs.Alone.{alone}
 use Rattle.meaning.specs.Run.{State, initial, busy, processOf as processIn, isStart, start, takeStep, takeEvent, recordRefusal, Outcome, refused, accepted, unless, run, outcome}
+use Rattle.rows.proofs.Laws.{RowFits}
 use Rattle.rules.proofs.Laws.{Passes, header-passes, Taken, refusal-passes, refusal-is}
 use Rattle.ledger.proofs.Good.{Good, Stepping, good-step, good-start, good-initial}
 use Rattle.ledger.proofs.StepCount.{StepCount, Gone, count-step, count-start, count-initial}
@@ -69,6 +70,10 @@ accepted-keeps P first steps begins s st e =
 
 counted : (s : List ℕ) (st : State) → outcome s ≡ accepted st → Good (height s) st × StepCount (height s) st
 counted s st e = accepted-keeps StepCount count-initial (λ h p x y z. count-step h p x y z) (λ h p a d x g b f o c. count-start h p a d x g b f o c) s st e
+
+-- the numbers of a row fit the report's columns
+pub accepted-fits : (s : List ℕ) (st : State) → outcome s ≡ accepted st → (i : ℕ) → RowFits (st .row i)
+accepted-fits s st e = counted s st e .0 .fits
 
 -- "A finished read has 1. A finished addition has 2 + 4h + 4f, where f is its number of second attempts, 0 to h."; "no addition has taken
 -- 2 + 8h steps and is still unfinished"; no row has more

@@ -4,6 +4,5 @@ pub mod Tries
 pub mod Runs
 pub mod Fresh
 pub mod Loop
-pub mod Answers
-pub mod Laws
 pub mod Accepted
+pub mod Laws

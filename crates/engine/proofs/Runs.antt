@@ -1,8 +1,7 @@
 -- The loops' invariant: the arrays agree with a state from which the rest of the run is the whole run; report's has the ledger besides.
 use Prim.Native.Nat.{ℕ, zero, suc, _+_, _^_, _≤_, _<_}
-use native.Mathlib.Numerals.{add-one}
 use native.Mathlib.Omega.{arith}
-use mathlib.Core.Path.{_≡_, refl, sym, ap, ap₂, _∙_, subst}
+use mathlib.Core.Path.{_≡_, refl, sym, ap, ap₂, _∙_, subst, subst⁻¹}
 use mathlib.Core.Bool.{Bool, true, false}
 use mathlib.Core.List.{List}
 use lib.ListN.{length, getD, set}
@@ -186,16 +185,16 @@ module _ (s : List ℕ) (h at : ℕ) (vals links : List ℕ) (ps : List Record) 
     pub room : m < 1024
     room = room-left p next true (b .goes) refl
 
-    module _ (ps′ : List Record) (set′ : ℕ) (ep : ps′ ≡ set ps p (startedRecord m adds delta)) (es : isIn set′ ≡ with p (isIn set₀)) where
-      pub runs-start : Runs s h next vals links ps′ set′ (m + 1)
+    module _ (ps′ : List Record) (set′ m′ : ℕ) (ep : ps′ ≡ set ps p (startedRecord m adds delta)) (es : isIn set′ ≡ with p (isIn set₀)) (one-more : m′ ≡ suc m) where
+      pub runs-start : Runs s h next vals links ps′ set′ m′
       runs-start =
-          goes-on p next true (b .goes) vals links ps′ set′ (m + 1) (start h p adds delta (R .st))
+          goes-on p next true (b .goes) vals links ps′ set′ m′ (start h p adds delta (R .st))
           (take-start h (R .st) (b .goes .event) (b .goes .kind)
           ∙ sym (λ i. start h (b .goes .whose i) (b .kind i) (b .amount i) (R .st)))
-          (rw add-one (agrees-start h at (R .st) vals links ps set₀ m (R .agrees) p (inside p next true (b .goes)) (free p next true (b .goes) refl) room adds delta ps′ set′ ep es next (b .goes .stands .further)))
+          (subst⁻¹ (Agrees h next (start h p adds delta (R .st)) vals links ps′ set′) one-more (agrees-start h at (R .st) vals links ps set₀ m (R .agrees) p (inside p next true (b .goes)) (free p next true (b .goes) refl) room adds delta ps′ set′ ep es next (b .goes .stands .further)))
 
       pub runs-kept-start : (asked : Bool) (contention : ℕ) (k k′ : Kept) → (asked ≡ true → Ledger h (R .st) k) → contention ≡ countBelow 64 (isIn set′)
-          → (asked ≡ true → k′ ≡ keptStart m p (kindOf adds) contention k) → RunsKept s h next vals links ps′ set′ (m + 1) asked k′
+          → (asked ≡ true → k′ ≡ keptStart m p (kindOf adds) contention k) → RunsKept s h next vals links ps′ set′ m′ asked k′
       unfolding runs-start goes-on
       runs-kept-start asked contention k k′ L ec ek =
           record {
@@ -223,8 +222,8 @@ unfolding keptOf memoryOf asFun root
 ends-accepted s h at vals links ps set₀ m asked counts writes read queue turns rows l K e r a b c d =
     let R = K .runs in
     subst (Ends asked h (length s) (asFun rows) r) (sym (runs-end s h at vals links ps set₀ m R e))
-    (accepts a b (c ∙ R .agrees .operations) (d ∙ ap (λ (x : Memory). x .value 1) (R .agrees .memory)) (R .agrees .good .few) (omega (arith, R .agrees .operations, R .agrees .started, R .within)) (λ t. K .ledger t .keeps .rows) (λ i x. R .agrees .good .fits i))
+    (accepts a b (c ∙ R .agrees .operations) (d ∙ ap (λ (x : Memory). x .value 1) (R .agrees .memory)) (R .agrees .good .few) (omega (arith, R .agrees .operations, R .agrees .started, R .within)) (λ t. K .ledger t .keeps .rows))
 
 pub ends-refused : (asked : Bool) (h size : ℕ) (rows : ℕ → ℕ) (o : Outcome) (number place : ℕ) (r : Ended) → (o ≡ refused (record { number = number; place = place })) × (1 ≤ number)
     → Refuses number place r → Ends asked h size rows r o
-ends-refused asked h size rows o number place r e f = subst (Ends asked h size rows r) (sym (e .0)) (refuses (f .its) (f .there) (e .1))
+ends-refused asked h size rows o number place r e f = subst (Ends asked h size rows r) (sym (e .0)) (refuses f (e .1))

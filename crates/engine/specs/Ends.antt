@@ -1,4 +1,4 @@
--- How a run ends, and what check and report promise.
+-- How a run ends, and the arrays that it is lent.
 use Prim.Native.Nat.{ℕ, _+_, _*_, _^_, _≤_, _<_}
 use mathlib.Core.Path.{_≡_}
 use mathlib.Core.Bool.{Bool, true, false}
@@ -9,17 +9,10 @@ use Rattle.recording.specs.declared.Event.{Event}
 use Rattle.recording.specs.declared.Event.the-variants.{Step, Read, Add}
 use Rattle.meaning.specs.Tree.{root}
 use Rattle.meaning.specs.Run.{State, Outcome, refused, accepted}
-use Rattle.meaning.specs.Report.{reportAnswer, reportBuffer}
 use Rattle.meaning.specs.TakenIn.{rank}
 use Rattle.listing.specs.Queue.{Sizes}
 use Rattle.rows.specs.Rows.{rowNumbers}
-use Rattle.rows.proofs.Laws.{RowFits}
 use Rattle.engine.specs.declared.Ended.{Ended}
-use Rattle.engine.specs.declared.Reply.{Reply}
-
--- the answer in the table's numbers
-unfoldable pub answerOf : Reply → Answer
-answerOf r = record { number = r .number; place = r .place }
 
 -- what a start record starts
 unfoldable pub addsOf : Event → Bool
@@ -32,25 +25,21 @@ deltaOf (Step p) = 0
 deltaOf (Read p) = 0
 deltaOf (Add p d) = d
 
--- a run that ends with a refusal
+-- a run that ends with a refusal, and then tells nothing else
 pub record Refuses (number place : ℕ) (r : Ended) : Type 0 where
   pub its : r .number ≡ number
   pub there : r .place ≡ place
+  pub operations : r .operations ≡ 0
+  pub counter : r .counter ≡ 0
 
 -- A run over so many bytes ends as the definition's: with the refusal, or with the counter, the operations and, where a report is asked for, their rows' numbers.
 pub data Ends (asked : Bool) (h size : ℕ) (rows : ℕ → ℕ) (r : Ended) : Outcome → Type 0 where
-  refuses : {a : Answer} → r .number ≡ a .number → r .place ≡ a .place → 1 ≤ a .number → Ends asked h size rows r (refused a)
+  refuses : {a : Answer} → Refuses (a .number) (a .place) r → 1 ≤ a .number → Ends asked h size rows r (refused a)
   accepts : {st : State} → r .number ≡ 0 → r .place ≡ 0 → r .operations ≡ st .operations → r .counter ≡ st .memory .value root → st .operations ≤ 1024 → 3 * st .operations + 6 ≤ size
-      → (asked ≡ true → (i j : ℕ) → i < st .operations → j < 5 → rows (5 * i + j) ≡ getD (rowNumbers (st .row i) (rank h (st .history) i)) j 0)
-      → ((i : ℕ) → i < st .operations → RowFits (st .row i)) → Ends asked h size rows r (accepted st)
+      → (asked ≡ true → (i j : ℕ) → i < st .operations → j < 5 → rows (5 * i + j) ≡ getD (rowNumbers (st .row i) (rank h (st .history) i)) j 0) → Ends asked h size rows r (accepted st)
 
 -- Arrays for what a report of s keeps: a row of read counts for each process; a queue, turns and rows for every operation that s has bytes for.
 pub record RoomFor (s : List ℕ) (h : ℕ) (read : List (List ℕ)) (queue turns rows : List ℕ) : Type 0 where
   pub readers : 2 ^ h ≤ length read
   pub sizes : Sizes queue turns rows
   pub operations : (m : ℕ) → m ≤ 1024 → 3 * m + 6 ≤ length s → m ≤ length queue
-
--- what report promises: the answer, and every byte of the buffer
-pub record Reports (s before after : List ℕ) (r : Reply) : Type 0 where
-  pub answer : answerOf r ≡ reportAnswer s before
-  pub buffer : after ≡ reportBuffer s before

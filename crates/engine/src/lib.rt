@@ -1,4 +1,4 @@
-// The replay: check and report, proved equal to the definitions for every byte string.
+// The run over a recording's records, proved equal to the definition's.
 use listing::Listed;
 use machine::Process;
 use recording::Cut;
@@ -10,19 +10,11 @@ ghost use mathlib.Core.Bool.{true};
 ghost use lib.ListN.{length};
 ghost use Rattle.sets.specs.Processes.{countBelow, isIn};
 ghost use Rattle.arrays.specs.Arrays.{asFun};
-ghost use Rattle.meaning.specs.Layout.{headRefusal, height, recordsOf};
+ghost use Rattle.meaning.specs.Layout.{recordsOf};
 ghost use Rattle.meaning.specs.Run.{initial, kindOf, run as runOf};
-ghost use Rattle.meaning.specs.Report.{checkAnswer};
 ghost use Rattle.rows.specs.Rows.{withRow, freshNumbers};
-ghost use Rattle.engine.specs.Ends.{answerOf, addsOf, deltaOf, Refuses, Ends, RoomFor, Reports};
+ghost use Rattle.engine.specs.Ends.{addsOf, deltaOf, Refuses, Ends, RoomFor};
 ghost use Rattle.engine.specs.Tries.{Tries, busyThen};
-
-// A refusal number, or 0, and a place.
-#[repr(C)]
-pub struct Reply {
-    pub number: u32,
-    pub place: u32,
-}
 
 // What the record at a place comes to: no more records; a refusal and its place; a step or a start that passes, of a process, with what it
 // starts, and the next place.
@@ -114,7 +106,7 @@ fn start_row(asked: bool, rows: &mut [u32], m: u32, p: usize, adds: bool, busy: 
 }
 
 // The run over the records of a recording whose header has passed. Where no report is asked for, only what acceptance hangs on is kept.
-fn run(
+pub fn run(
     s: &[u8],
     h: u32,
     asked: bool,
@@ -142,11 +134,12 @@ fn run(
     loop {
         match try_at(s, h, busy, m, at) {
             Tried::End => {
+                let counter = vals[1];
                 return Ended {
                     number: 0,
                     place: 0,
                     operations: m,
-                    counter: vals[1],
+                    counter,
                 };
             }
             Tried::Refused(number, place) => {
@@ -182,107 +175,4 @@ fn run(
             }
         }
     }
-}
-
-// What report would answer with room enough.
-pub fn check(s: &[u8]) -> Reply
-    ensures { λ r. ⌜ answerOf r ≡ checkAnswer (now (s .entry)) ⌝ }
-{
-    let k = rules::header(s);
-    if k != 0 {
-        return Reply {
-            number: k,
-            place: 0,
-        };
-    }
-    let mut read = [[0u16; 64]; 0];
-    let mut queue = [0u16; 0];
-    let mut turns = [0u16; 0];
-    let mut rows = [0u32; 0];
-    let last = run(
-        s,
-        s[5] as u32,
-        false,
-        &mut read,
-        &mut queue,
-        &mut turns,
-        &mut rows,
-    );
-    Reply {
-        number: last.number,
-        place: last.place,
-    }
-}
-
-// The report of a recording whose header has passed, with the arrays that it keeps.
-fn report_in(
-    s: &[u8],
-    out: &mut [u8],
-    read: &mut [[u16; 64]],
-    queue: &mut [u16],
-    turns: &mut [u16],
-    rows: &mut [u32],
-) -> Reply
-    requires { ⌜ (headRefusal (now s) ≡ 0) × RoomFor (now s) (height (now s)) (now read) (now queue) (now turns) (now rows) ⌝ }
-    ensures { λ r. ⌜ Reports (now (s .entry)) (now (out .entry)) (now (out .exit)) r ⌝ }
-{
-    let e = run(s, s[5] as u32, true, read, queue, turns, rows);
-    if e.number != 0 {
-        return Reply {
-            number: e.number,
-            place: e.place,
-        };
-    }
-    let m = e.operations as usize;
-    if out.len() < 9 + 20 * m {
-        return Reply {
-            number: 11,
-            place: (9 + 20 * m) as u32,
-        };
-    }
-    rows::lay_report(out, m, e.counter, rows);
-    Reply {
-        number: 0,
-        place: 0,
-    }
-}
-
-// The same with a queue, turns and rows for as many operations as the recording has bytes for: 20 at most, or 1,024.
-fn report_with(s: &[u8], out: &mut [u8], read: &mut [[u16; 64]]) -> Reply
-    requires { ⌜ (headRefusal (now s) ≡ 0) × (2 ^ height (now s) ≤ length (now read)) ⌝ }
-    ensures { λ r. ⌜ Reports (now (s .entry)) (now (out .entry)) (now (out .exit)) r ⌝ }
-{
-    if s.len() <= 68 {
-        let mut queue = [0u16; 20];
-        let mut turns = [0u16; 20];
-        let mut rows = [0u32; 100];
-        return report_in(s, out, read, &mut queue, &mut turns, &mut rows);
-    }
-    let mut queue = [0u16; 1024];
-    let mut turns = [0u16; 1024];
-    let mut rows = [0u32; 5120];
-    report_in(s, out, read, &mut queue, &mut turns, &mut rows)
-}
-
-// The answer, and on acceptance the report at the front of out.
-pub fn report(s: &[u8], out: &mut [u8]) -> Reply
-    ensures { λ r. ⌜ Reports (now (s .entry)) (now (out .entry)) (now (out .exit)) r ⌝ }
-{
-    let k = rules::header(s);
-    if k != 0 {
-        return Reply {
-            number: k,
-            place: 0,
-        };
-    }
-    if s[5] <= 3 {
-        let mut read = [[0u16; 64]; 8];
-        return report_with(s, out, &mut read);
-    }
-    if s[5] <= 5 {
-        let mut read = [[0u16; 64]; 32];
-        return report_with(s, out, &mut read);
-    }
-    let mut read = [[0u16; 64]; 64];
-    report_with(s, out, &mut read)
 }

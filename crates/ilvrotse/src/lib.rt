@@ -1,15 +1,15 @@
 // The two entries for host programs in C: include/ilvrotse.h declares them.
-use engine::Reply;
+use entries::Reply;
 ghost use mathlib.Core.Path.{_≡_};
 ghost use Rattle.meaning.specs.Report.{checkAnswer};
-ghost use Rattle.engine.specs.Ends.{answerOf, Reports};
+ghost use Rattle.entries.specs.Promises.{answerOf, Reports};
 
 // What report would answer with room enough.
 #[no_mangle]
 pub extern "C" fn ilvrotse_check(rec: &[u8]) -> Reply
     ensures { λ r. ⌜ answerOf r ≡ checkAnswer (now (rec .entry)) ⌝ }
 {
-    engine::check(rec)
+    entries::check(rec)
 }
 
 // The answer, and on acceptance the report at the front of out.
@@ -17,5 +17,5 @@ pub extern "C" fn ilvrotse_check(rec: &[u8]) -> Reply
 pub extern "C" fn ilvrotse_report(rec: &[u8], out: &mut [u8]) -> Reply
     ensures { λ r. ⌜ Reports (now (rec .entry)) (now (out .entry)) (now (out .exit)) r ⌝ }
 {
-    engine::report(rec, out)
+    entries::report(rec, out)
 }

@@ -17,9 +17,9 @@ use Rattle.meaning.specs.Run.{Row, State, Outcome, refused, accepted, outcome}
 use Rattle.meaning.specs.TakenIn.{rank}
 use Rattle.meaning.specs.Report.{one, rowBytes, rowsBytes, reportBytes, needed, passes, answerWith, bufferWith, reportAnswer, reportBuffer}
 use Rattle.meaning.specs.Printed.{rowLine, rowLines, printedOf, printed}
-use Rattle.engine.specs.Ends.{answerOf, Reports}
-use Rattle.engine.specs.declared.Reply.{Reply}
-use Rattle.engine.proofs.Laws.{refusal-positive}
+use Rattle.entries.specs.Promises.{answerOf, Reports}
+use Rattle.entries.specs.declared.Reply.{Reply}
+use Rattle.entries.proofs.Laws.{refusal-positive}
 use Rattle.printing.specs.Text.{kindText, rowText, rowTexts, firstText, refusalText}
 use Rattle.printing.specs.Prints.{Prints, Lays}
 use Rattle.printing.proofs.Laid.{lays-all}

@@ -184,7 +184,7 @@ pub fn print(rec: &[u8], out: &mut [u8; 84009]) -> usize
 {
     sized(*out);
     let mut report = [0u8; 20489];
-    let reply = engine::report(taken_in(rec), &mut report);
+    let reply = entries::report(taken_in(rec), &mut report);
     if reply.number != 0 {
         return lay_refusal(out, reply.number, reply.place);
     }

@@ -38,8 +38,8 @@ try-at-requires c κs =
 enum-told : tie.Need-enum-told Inv-loop μ-loop
 enum-told c = search needs
 
-array-read-t32 : tie.Need-array-read-t32 Inv-loop μ-loop
-array-read-t32 c = search needs
+array-read-counter : tie.Need-array-read-counter Inv-loop μ-loop
+array-read-counter c = search needs
 
 same-length : tie.Need-same-length Inv-loop μ-loop
 same-length c =
@@ -126,7 +126,7 @@ loop-less c =
 
 loop-again : tie.Need-loop-again Inv-loop μ-loop
 loop-again c = (
-  runs-kept-start _ _ _ _ _ _ _ _ ((c .before .before .before .before .before .before .before .before .before .before .loop) .inv .0 .runs) _ _ _ _ (tried-start _ _ _ _ _ _ ((c .before .before .before .before .before .before .before .before .before .try-at) .ensures) _ _ _ _ ((c .before .before .before .before .before .before .before .p) .given .1)) _ _ (rw ((c .before .before .before .before .before .started) .ensures)) ((c .before .before .before .before .put) .ensures) _ _ _ _ ((c .before .before .before .before .before .before .before .before .before .before .loop) .inv .0 .ledger) refl (λ a. kept-started _ _ _ _ _ _ _ _ _ _ _ _ ((c .before .before .start-row) .ensures a)),
+  runs-kept-start _ _ _ _ _ _ _ _ ((c .before .before .before .before .before .before .before .before .before .before .loop) .inv .0 .runs) _ _ _ _ (tried-start _ _ _ _ _ _ ((c .before .before .before .before .before .before .before .before .before .try-at) .ensures) _ _ _ _ ((c .before .before .before .before .before .before .before .p) .given .1)) _ _ _ (rw ((c .before .before .before .before .before .started) .ensures)) ((c .before .before .before .before .put) .ensures) (omega arith) _ _ _ _ ((c .before .before .before .before .before .before .before .before .before .before .loop) .inv .0 .ledger) refl (λ a. kept-started _ _ _ _ _ _ _ _ _ _ _ _ ((c .before .before .start-row) .ensures a)),
   let w = (c .before .before .before .before .before .before .before .before .before .before .loop) .inv .1 in record { ofRead = w .ofRead; ofQueue = w .ofQueue; ofTurns = w .ofTurns; ofRows = omega (arith, (c .before .before .start-row) .kept, w .ofRows) },
 )
 
@@ -184,7 +184,7 @@ run-spec =
     loop-holds
     try-at-requires
     enum-told
-    array-read-t32
+    array-read-counter
     same-length
     same-length-2
     same-length-3

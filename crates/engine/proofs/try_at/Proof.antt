@@ -1,5 +1,6 @@
 -- `try_at` meets its contract: each way out is one of what a record comes to.
 use Rattle.engine.proofs.Tries.{tries-end, tries-broken, tries-refused, tries-step, tries-start}
+use native.Mathlib.Omega.{arith}
 use borrow.Author.Needs.{needs}
 use Rattle.engine.proofs.try_at.Statement.{statement}
 use Rattle.engine.proofs.try_at.Tie as tie
@@ -27,7 +28,7 @@ refusal-requires c κs = search needs
 
 returns : tie.Need-returns
 returns c =
-    tries-refused _ _ _ _ _ _ _ _ _ _ _ ((c .before .before .before .before .before .before .before .cut-at) .ensures) ((c .before .before .before .before .before .e) .given .1) ((c .before .before .before .process-of) .ensures) ((c .before .before .has) .ensures) ((c .before .refusal) .ensures) ((c .if1) .taken)
+    tries-refused _ _ _ _ _ _ _ _ _ _ _ ((c .before .before .before .before .before .before .before .cut-at) .ensures) ((c .before .before .before .before .before .e) .given .1) ((c .before .before .before .process-of) .ensures) ((c .before .before .has) .ensures) ((c .before .refusal) .ensures) (λ z. omega (arith, (c .if1) .taken))
 
 is-start-requires : tie.Need-is-start-requires
 is-start-requires c κs = search needs
@@ -48,11 +49,11 @@ returns-3 c =
 
 returns-4 : tie.Need-returns-4
 returns-4 c =
-    tries-start _ _ _ _ _ _ _ _ _ _ _ ((c .before .before .before .before .before .before .before .before .before .before .before .cut-at) .ensures) ((c .before .before .before .before .before .before .before .before .before .e) .given .1) ((c .before .before .before .before .before .before .before .process-of) .ensures) ((c .before .before .before .before .before .before .has) .ensures) ((c .before .before .before .before .before .refusal) .ensures) ((c .before .before .before .before .if1) .left) _ ((c .before .before .before .is-start) .ensures) _ _ ((c .before .before .if2) .taken) ((c .before .adds) .ensures) ((c .delta-of) .ensures)
+    tries-start _ _ _ _ _ _ _ _ _ _ _ ((c .before .before .before .before .before .before .before .before .before .before .before .cut-at) .ensures) ((c .before .before .before .before .before .before .before .before .before .e) .given .1) ((c .before .before .before .before .before .before .before .process-of) .ensures) ((c .before .before .before .before .before .before .has) .ensures) ((c .before .before .before .before .before .refusal) .ensures) (omega (arith, (c .before .before .before .before .if1) .left)) _ ((c .before .before .before .is-start) .ensures) _ _ ((c .before .before .if2) .taken) ((c .before .adds) .ensures) ((c .delta-of) .ensures)
 
 returns-5 : tie.Need-returns-5
 returns-5 c =
-    tries-step _ _ _ _ _ _ _ _ _ _ _ ((c .before .before .before .before .before .before .before .before .before .cut-at) .ensures) ((c .before .before .before .before .before .before .before .e) .given .1) ((c .before .before .before .before .before .process-of) .ensures) ((c .before .before .before .before .has) .ensures) ((c .before .before .before .refusal) .ensures) ((c .before .before .if1) .left) _ ((c .before .is-start) .ensures) ((c .if2) .left)
+    tries-step _ _ _ _ _ _ _ _ _ _ _ ((c .before .before .before .before .before .before .before .before .before .cut-at) .ensures) ((c .before .before .before .before .before .before .before .e) .given .1) ((c .before .before .before .before .before .process-of) .ensures) ((c .before .before .before .before .has) .ensures) ((c .before .before .before .refusal) .ensures) (omega (arith, (c .before .before .if1) .left)) _ ((c .before .is-start) .ensures) ((c .if2) .left)
 
 pub try-at-spec : {M : Type 1} → statement M
 try-at-spec =

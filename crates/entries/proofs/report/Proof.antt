@@ -4,11 +4,11 @@ use lib.Pow.{pow-mono}
 use Rattle.meaning.specs.Layout.{height}
 use Rattle.meaning.specs.Report.{answerWith, bufferWith}
 use Rattle.rules.proofs.Laws.{header-passes}
-use Rattle.engine.specs.Ends.{answerOf}
-use Rattle.engine.proofs.Answers.{head-refused, reports}
+use Rattle.entries.specs.Promises.{answerOf}
+use Rattle.entries.proofs.Answers.{head-refused, reports}
 use borrow.Author.Needs.{needs}
-use Rattle.engine.proofs.report.Statement.{statement}
-use Rattle.engine.proofs.report.Tie as tie
+use Rattle.entries.proofs.report.Statement.{statement}
+use Rattle.entries.proofs.report.Tie as tie
 
 header-requires : tie.Need-header-requires
 header-requires c κs = search needs

@@ -4,12 +4,12 @@ use Rattle.meaning.specs.Layout.{height}
 use Rattle.meaning.specs.Report.{checkWith, checkAnswer}
 use Rattle.rules.proofs.Laws.{header-passes}
 use Rattle.ledger.proofs.Good.{false-true}
-use Rattle.engine.specs.Ends.{answerOf}
-use Rattle.engine.proofs.Answers.{head-refused, head-passed, check-ends}
+use Rattle.entries.specs.Promises.{answerOf}
+use Rattle.entries.proofs.Answers.{head-refused, head-passed, check-ends}
 use native.Mathlib.Omega.{arith}
 use borrow.Author.Needs.{needs}
-use Rattle.engine.proofs.check.Statement.{statement}
-use Rattle.engine.proofs.check.Tie as tie
+use Rattle.entries.proofs.check.Statement.{statement}
+use Rattle.entries.proofs.check.Tie as tie
 
 header-requires : tie.Need-header-requires
 header-requires c κs = search needs

@@ -12,9 +12,11 @@ use Rattle.meaning.specs.Run.{initial, Outcome, refused, accepted, unless, run,
 use Rattle.meaning.specs.Report.{reportBytes, needed, passes, answerWith, bufferWith, reportAnswer, reportBuffer, checkWith}
 use Rattle.rows.specs.Rows.{laidReport}
 use Rattle.rows.proofs.Laws.{report-bytes}
-use Rattle.engine.specs.Ends.{answerOf, Ends, refuses, accepts, Reports}
+use Rattle.engine.specs.Ends.{Ends, refuses, accepts}
 use Rattle.engine.specs.declared.Ended.{Ended}
-use Rattle.engine.specs.declared.Reply.{Reply}
+use Rattle.engine.proofs.Accepted.{accepted-fits}
+use Rattle.entries.specs.Promises.{answerOf, Reports}
+use Rattle.entries.specs.declared.Reply.{Reply}
 
 -- ---- the header
 
@@ -31,8 +33,8 @@ head-passed s k e z = ap (λ (n : ℕ). unless n 0 (run (height s) initial (reco
 
 pub check-ends : (asked : Bool) (h size : ℕ) (rows : ℕ → ℕ) (r : Ended) {o : Outcome} → Ends asked h size rows r o → record { number = r .number; place = r .place } ≡ checkWith o
 unfolding checkWith passes
-check-ends asked h size rows r (refuses a b c) = λ i. record { number = a i; place = b i }
-check-ends asked h size rows r (accepts a b c d e l f g) = λ i. record { number = a i; place = b i }
+check-ends asked h size rows r (refuses f c) = λ i. record { number = f .its i; place = f .there i }
+check-ends asked h size rows r (accepts a b c d e l f) = λ i. record { number = a i; place = b i }
 
 -- ---- report
 
@@ -44,26 +46,26 @@ reports s before after r o e a b = record { answer = a ∙ ap (λ (x : Outcome).
 module _ (s buf : List ℕ) (h size : ℕ) (rows : ℕ → ℕ) (r : Ended) (same : h ≡ height s) where
   pub report-refused : {o : Outcome} → outcome s ≡ o → Ends true h size rows r o → (r .number ≡ 0 → ⊥) → Reports s buf buf (record { number = r .number; place = r .place })
   unfolding answerWith bufferWith answerOf
-  report-refused {o} e (refuses a b c) n = reports s buf buf _ o e (λ i. record { number = a i; place = b i }) refl
-  report-refused e (accepts a b c d f q g j) n = absurd (n a)
+  report-refused {o} e (refuses w c) n = reports s buf buf _ o e (λ i. record { number = w .its i; place = w .there i }) refl
+  report-refused e (accepts a b c d f q g) n = absurd (n a)
 
   pub report-short : {o : Outcome} → outcome s ≡ o → Ends true h size rows r o → r .number ≡ 0 → length buf < 9 + 20 * r .operations → Reports s buf buf (record { number = 11; place = 9 + 20 * r .operations })
   unfolding answerWith bufferWith answerOf needed
-  report-short e (refuses a b c) z l = absurd (omega (arith, a, c))
-  report-short e (accepts {st} a b c d f q g j) z l =
+  report-short e (refuses w c) z l = absurd (omega (arith, w .its, c))
+  report-short e (accepts {st} a b c d f q g) z l =
       let long : leb (9 + 20 * st .operations) (length buf) ≡ false = lt-leb (9 + 20 * st .operations) (length buf) (omega arith) in
       reports s buf buf _ (accepted st) e (rw long (ap (λ (m : ℕ). record { number = 11; place = 9 + 20 * m }) c)) (rw long)
 
   pub report-laid : (after : List ℕ) {o : Outcome} → outcome s ≡ o → Ends true h size rows r o → r .number ≡ 0 → 9 + 20 * r .operations ≤ length buf → after ≡ laidReport (r .operations) (r .counter) rows buf
-      → Reports s buf after (record { number = 0; place = 0 })
+      → Reports s buf after (record { number = r .number; place = r .place })
   unfolding answerWith bufferWith answerOf needed passes
-  report-laid after e (refuses a b c) z l laid = absurd (omega (arith, a, c))
-  report-laid after e (accepts {st} a b c d f q g j) z l laid =
+  report-laid after e (refuses w c) z l laid = absurd (omega (arith, w .its, c))
+  report-laid after e (accepts {st} a b c d f q g) z l laid =
       let long : leb (9 + 20 * st .operations) (length buf) ≡ true = le-leb (9 + 20 * st .operations) (length buf) (omega arith) in
-      reports s buf after _ (accepted st) e (rw long)
+      reports s buf after _ (accepted st) e (rw long (λ i. record { number = a i; place = b i }))
       (rw long
-      (laid ∙ (λ i. laidReport (c i) (d i) rows buf) ∙ report-bytes h st rows (λ i k x y. g refl i k x y) j buf ∙ ap (λ (x : ℕ). reportBytes x st ++ drop (9 + 20 * st .operations) buf) same))
+      (laid ∙ (λ i. laidReport (c i) (d i) rows buf) ∙ report-bytes h st rows (λ i k x y. g refl i k x y) (λ i x. accepted-fits s st e i) buf ∙ ap (λ (x : ℕ). reportBytes x st ++ drop (9 + 20 * st .operations) buf) same))
 
-pub few-operations : (h size : ℕ) (rows : ℕ → ℕ) (r : Ended) {o : Outcome} → Ends true h size rows r o → r .number ≡ 0 → (r .operations ≤ 1024) × (3 * r .operations + 6 ≤ size)
-few-operations h size rows r (refuses a b c) z = absurd (omega (arith, a, c))
-few-operations h size rows r (accepts a b c d e l f g) z = (omega arith, omega arith)
+pub few-operations : (h size : ℕ) (rows : ℕ → ℕ) (r : Ended) {o : Outcome} → 6 ≤ size → Ends true h size rows r o → (r .operations ≤ 1024) × (3 * r .operations + 6 ≤ size)
+few-operations h size rows r six (refuses w c) = (omega (arith, w .operations), omega (arith, w .operations))
+few-operations h size rows r six (accepts a b c d e l f) = (omega arith, omega arith)
