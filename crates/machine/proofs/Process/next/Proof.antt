@@ -8,12 +8,12 @@ use Rattle.cell.specs.Cell.{readOf}
 use Rattle.meaning.specs.Tree.{left, right}
 use Rattle.meaning.specs.Access.{writesLeaf}
 use Rattle.meaning.specs.Steps.{cellAt, withValue, effect, onward, sawLeft, sawRight, atStep, plus}
+use Rattle.climb.specs.Climb.{CanTry, afterStore}
+use Rattle.climb.proofs.Passes.{within-in}
 use Rattle.arrays.specs.Arrays.{asFun}
 use Rattle.machine.specs.Arrays.{memoryOf, processOf}
-use Rattle.machine.specs.Does.{afterStore}
-use Rattle.machine.specs.Nexts.{CanTry}
 use Rattle.machine.proofs.Joined.{joined}
-use Rattle.machine.proofs.Laws.{leaf-write, link-at, left-at, right-at, store-at, last-addition, addition-past-1, can-try, within-in}
+use Rattle.machine.proofs.Laws.{leaf-write, link-at, left-at, right-at, store-at, last-addition, addition-past-1, can-try}
 use Rattle.machine.proofs.Stored.{value-stored}
 use Rattle.machine.proofs.Process.next.Statement.{statement}
 use Rattle.machine.proofs.Process.next.Tie as tie

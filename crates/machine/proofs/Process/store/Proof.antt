@@ -6,7 +6,7 @@ use denote.Ref.{now}
 use Rattle.cell.specs.Cell.{State, succeeds, storeConditional}
 use Rattle.meaning.specs.Steps.{cellAt, withCell, effect, atStep, plus}
 use Rattle.machine.specs.Arrays.{memoryOf, processOf}
-use Rattle.machine.specs.Does.{afterStore}
+use Rattle.climb.specs.Climb.{afterStore}
 use Rattle.machine.proofs.Process.store.Statement.{statement}
 use Rattle.machine.proofs.Process.store.Tie as tie
 

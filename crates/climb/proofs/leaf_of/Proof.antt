@@ -3,8 +3,8 @@ use native.Mathlib.Omega.{arith}
 use borrow.Author.Needs.{needs}
 use lib.Pow.{pow-mono}
 use Rattle.meaning.specs.Tree.{leafOf, processes}
-use Rattle.machine.proofs.leaf_of.Statement.{statement}
-use Rattle.machine.proofs.leaf_of.Tie as tie
+use Rattle.climb.proofs.leaf_of.Statement.{statement}
+use Rattle.climb.proofs.leaf_of.Tie as tie
 
 shl-result : tie.Need-shl-result
 shl-result c = search needs

@@ -14,8 +14,7 @@ use lib.Seq.{getD-append-add}
 use lib.Pow.{pow-pos, pow-mono, shr-shr, shr-le}
 use Rattle.meaning.specs.Tree.{processes, leafOf, parent, ancestor}
 use Rattle.meaning.specs.Access.{Access, starts, Attempt, first, second, attempt, climb, additionSteps}
-use Rattle.machine.specs.Does.{attemptOf, LeafOf}
-use Rattle.machine.specs.Nexts.{CanTry, NodeOf}
+use Rattle.climb.specs.Climb.{CanTry, LeafOf, NodeOf, attemptOf}
 
 pub ancestor-div : (l x : ℕ) → ancestor l x ≡ x / 2 ^ l
 unfolding ancestor parent

@@ -1,8 +1,8 @@
 -- `node_of`: shifting right by l is going up l levels.
 use borrow.Author.Needs.{needs}
-use Rattle.machine.proofs.Numbered.{node-of}
-use Rattle.machine.proofs.node_of.Statement.{statement}
-use Rattle.machine.proofs.node_of.Tie as tie
+use Rattle.climb.proofs.Numbered.{node-of}
+use Rattle.climb.proofs.node_of.Statement.{statement}
+use Rattle.climb.proofs.node_of.Tie as tie
 
 leaf-of-requires : tie.Need-leaf-of-requires
 leaf-of-requires c κs = search needs
