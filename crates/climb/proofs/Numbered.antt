@@ -105,3 +105,7 @@ node-of h p s c can leaf =
       low = rw is (ancestor-low (suc l) h p (omega arith));
       high = rw (is, ← leaf .is) (ancestor-high l c (leaf .high));
     }
+
+-- the same for a shift by k places, told by its number
+pub node-at : (h p s c k : ℕ) → CanTry h p s → LeafOf h p c → k ≡ (s - 3) / 8 + 1 → NodeOf h p s (c / 2 ^ k)
+node-at h p s c k can leaf e = rw e (node-of h p s c can leaf)

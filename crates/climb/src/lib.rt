@@ -20,6 +20,7 @@ pub fn node_of(h: u32, p: usize, s: u32) -> usize
 }
 
 // The step number after the SC of step s. Its attempt started three steps before: a first one at 3, 11, 19 and so on, a second at 7, 15, 23.
+// The next attempt starts right after it; the first one at the node above, after both.
 pub fn after_store(h: u32, s: u32, ok: bool) -> u32
     requires { ⌜ h ≤ 6 ⌝ }
     requires { ⌜ 3 ≤ s ⌝ }

@@ -95,16 +95,12 @@ impl Process {
     pub fn started(operation: u16, adds: bool, delta: u32) -> Process
         ensures { λ r. ⌜ r ≡ startedRecord operation adds delta ⌝ }
     {
-        Process {
-            step: 1,
-            operation,
-            adds,
-            delta,
-            seen: 0,
-            seen_left: 0,
-            seen_right: 0,
-            stored: false,
-        }
+        let mut next = Process::idle();
+        next.step = 1;
+        next.operation = operation;
+        next.adds = adds;
+        next.delta = delta;
+        next
     }
 
     // Step 1: an addition reads its leaf; a read reads the root, and ends.

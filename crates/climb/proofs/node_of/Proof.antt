@@ -1,6 +1,7 @@
 -- `node_of`: shifting right by l is going up l levels.
+use native.Mathlib.Omega.{arith}
 use borrow.Author.Needs.{needs}
-use Rattle.climb.proofs.Numbered.{node-of}
+use Rattle.climb.proofs.Numbered.{node-at}
 use Rattle.climb.proofs.node_of.Statement.{statement}
 use Rattle.climb.proofs.node_of.Tie as tie
 
@@ -20,7 +21,7 @@ shr-result : tie.Need-shr-result
 shr-result c = search needs
 
 returns : tie.Need-returns
-returns c = node-of _ _ _ _ (c .before .pre) (c .leaf-of .ensures)
+returns c = node-at _ _ _ _ _ (c .before .pre) (c .leaf-of .ensures) (omega arith)
 
 pub node-of-spec : {M : Type 1} → statement M
 node-of-spec =
