@@ -5,7 +5,7 @@ use mathlib.Core.Bool.{true, false}
 use native.Mathlib.Omega.{arith}
 use borrow.Author.Needs.{needs}
 use Rattle.meaning.specs.Run.{processOf, isStart}
-use Rattle.rules.proofs.Ways.{no-such-process, starts-busy, too-many, starts, steps, steps-idle}
+use Rattle.rules.proofs.Ways.{no-such-process, starts, steps, steps-idle}
 use Rattle.rules.proofs.refusal.Statement.{statement}
 use Rattle.rules.proofs.refusal.Tie as tie
 
@@ -38,20 +38,17 @@ returns c = no-such-process _ _ _ _ (same-le (c .before .before .processes .ensu
 is-start-requires : tie.Need-is-start-requires
 is-start-requires c κs = search needs
 
+first-of-requires : tie.Need-first-of-requires
+first-of-requires c κs = search needs
+
 returns-2 : tie.Need-returns-2
-returns-2 c = starts-busy _ _ _ _ (inside (c .before .before .before)) (a-start (c .before)) (c .if3 .taken)
+returns-2 c = c .first-of .ensures ∙ starts _ _ _ _ (inside (c .before .before .before)) (a-start (c .before))
 
 returns-3 : tie.Need-returns-3
-returns-3 c = too-many _ _ _ _ (inside (c .before .before .before .before)) (a-start (c .before .before)) (c .before .if3 .left) (c .if4 .taken)
+returns-3 c = steps _ _ _ _ (inside (c .before .before .before)) (a-step (c .before)) (c .if3 .taken)
 
 returns-4 : tie.Need-returns-4
-returns-4 c = starts _ _ _ _ (inside (c .before .before .before .before)) (a-start (c .before .before)) (c .before .if3 .left) (c .if4 .left)
-
-returns-5 : tie.Need-returns-5
-returns-5 c = steps _ _ _ _ (inside (c .before .before .before)) (a-step (c .before)) (c .if5 .taken)
-
-returns-6 : tie.Need-returns-6
-returns-6 c = steps-idle _ _ _ _ (inside (c .before .before .before)) (a-step (c .before)) (c .if5 .left)
+returns-4 c = steps-idle _ _ _ _ (inside (c .before .before .before)) (a-step (c .before)) (c .if3 .left)
 
 pub refusal-spec : {M : Type 1} → statement M
 refusal-spec =
@@ -61,8 +58,7 @@ refusal-spec =
     process-of-requires
     returns
     is-start-requires
+    first-of-requires
     returns-2
     returns-3
-    returns-4
-    returns-5
-    returns-6)
+    returns-4)
