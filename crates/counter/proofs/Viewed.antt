@@ -19,8 +19,7 @@ use Rattle.meaning.specs.Steps.{Process, plus, effect, onward, cellAt, withCell
 use Rattle.meaning.specs.Run.{Entry, State, rowAfter, takeStep}
 use Rattle.meaning.specs.TakenIn.{beforeRead}
 use Rattle.taken.specs.CountIn.{writesBy, countIn}
-use Rattle.machine.specs.Does.{attemptOf}
-use Rattle.machine.specs.Nexts.{CanTry}
+use Rattle.climb.specs.Climb.{CanTry, attemptOf}
 use Rattle.machine.proofs.Laws.{last-addition}
 use Rattle.ledger.proofs.Did.{did}
 use Rattle.ledger.proofs.Turns.{nodeAt, Turn, root, leaf, write, link, leftward, rightward, store, Next, after-root, after-leaf, after-write, after-link, after-left, after-right, after-store}

@@ -16,7 +16,7 @@ use Rattle.meaning.specs.Steps.{upd, Process, effect, onward, idle as idleProce
 use Rattle.meaning.specs.Run.{Entry, State, initial, started, start, takeStep}
 use Rattle.meaning.specs.TakenIn.{beforeRead}
 use Rattle.taken.specs.CountIn.{writesBy, countStore, countIn}
-use Rattle.machine.specs.Does.{attemptOf}
+use Rattle.climb.specs.Climb.{attemptOf}
 use Rattle.counts.specs.Counts.{Counts, countsAfter, attempted, wrote, readOver, storedOver, levelAt, positionAt, firstUnder}
 use Rattle.counts.proofs.Laws.{between-in, between-out}
 use Rattle.ledger.specs.Kept.{countsThen}

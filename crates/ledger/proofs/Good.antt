@@ -18,7 +18,8 @@ use Rattle.meaning.specs.Run.{Entry, Row, State, blank, initial, busy, started,
 use Rattle.taken.proofs.Agree.{Once, none, more}
 use Rattle.rows.proofs.Laws.{RowFits}
 use Rattle.machine.specs.Nexts.{lastStep}
-use Rattle.machine.proofs.Laws.{job, effect-keeps, steps-long, within-le}
+use Rattle.climb.proofs.Passes.{within-le}
+use Rattle.machine.proofs.Laws.{job, effect-keeps, steps-long}
 use Rattle.ledger.proofs.Turns.{Turn, root, leaf, write, link, leftward, rightward, store, turn, Next, after-root, after-leaf, after-write, after-link, after-left, after-right, after-store, next, idle, linking}
 use Rattle.ledger.proofs.Did.{did, did-leaf, did-other, did-not, did-cases}
 

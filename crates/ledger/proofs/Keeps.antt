@@ -17,7 +17,7 @@ use Rattle.meaning.specs.Run.{Entry, State, initial, busy, kindOf, newRow, star
 use Rattle.meaning.specs.TakenIn.{beforeRead, keep, placed, listed, rank}
 use Rattle.taken.specs.CountIn.{writesBy, countIn, Waiter, waiterOf, waiters}
 use Rattle.taken.proofs.Agree.{Once, written}
-use Rattle.machine.specs.Does.{attemptOf}
+use Rattle.climb.specs.Climb.{attemptOf}
 use Rattle.counts.specs.Counts.{Counts, countsAfter}
 use Rattle.rows.specs.Rows.{withRow, steppedNumbers}
 use Rattle.listing.specs.Queue.{isCounted, operationsOf, ranked}

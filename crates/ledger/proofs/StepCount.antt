@@ -13,8 +13,7 @@ use Rattle.cell.specs.Cell.{succeeds}
 use Rattle.meaning.specs.Access.{Access, links, stores, first, second, attempt, isSecondLink}
 use Rattle.meaning.specs.Steps.{idle as idleProcess, cellAt, effect, passesBy, within}
 use Rattle.meaning.specs.Run.{Row, State, blank, initial, started, kindOf, newRow, start, rowAfter, takeStep}
-use Rattle.machine.specs.Does.{attemptOf}
-use Rattle.machine.specs.Nexts.{CanTry}
+use Rattle.climb.specs.Climb.{CanTry, attemptOf}
 use Rattle.machine.proofs.Laws.{last-addition}
 use Rattle.ledger.proofs.Turns.{nodeAt, Turn, root, leaf, write, link, leftward, rightward, store, Next, after-root, after-leaf, after-write, after-link, after-left, after-right, after-store, step-is}
 use Rattle.ledger.proofs.Good.{Good, Stepping, accessBy, recordAfter, turns, goes, same-operation, same-adds, in-range, by-stepper, by-process, stepped-row, started-row, other, false-true}

@@ -10,10 +10,11 @@ use Rattle.cell.specs.Cell.{succeeds}
 use Rattle.meaning.specs.Tree.{processes, leafOf, ancestor}
 use Rattle.meaning.specs.Access.{Access, readsRoot, readsLeaf, writesLeaf, links, readsLeft, readsRight, stores, Attempt, first, second, attempt, isRootRead}
 use Rattle.meaning.specs.Steps.{cellAt, Memory, Process, effect, onward, passesBy, atStep, within, accessOf, nextRecord}
-use Rattle.machine.specs.Does.{attemptOf}
-use Rattle.machine.specs.Nexts.{lastStep, CanTry, NodeOf}
-use Rattle.machine.proofs.Numbered.{node-of}
-use Rattle.machine.proofs.Laws.{root-read, leaf-read, leaf-write, link-at, left-at, right-at, store-at, last-addition, last-read, steps-long, within-in, within-end}
+use Rattle.climb.specs.Climb.{CanTry, NodeOf, attemptOf}
+use Rattle.climb.proofs.Numbered.{node-of}
+use Rattle.climb.proofs.Passes.{within-in, within-end}
+use Rattle.machine.specs.Nexts.{lastStep}
+use Rattle.machine.proofs.Laws.{root-read, leaf-read, leaf-write, link-at, left-at, right-at, store-at, last-addition, last-read, steps-long}
 
 -- heights 1 to 6, a process of that tree, and a step of its operation
 pub record CanTurn (h p : ℕ) (r : Process) : Type 0 where

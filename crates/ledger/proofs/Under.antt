@@ -10,7 +10,7 @@ use lib.Dec.{ltb, eqb}
 use borrow.Author.Tests.{ltb-true, ltb-false, eqb-true, eqb-false}
 use lib.Pow.{pow-pos, pow-mono, pow-add, shr-lt}
 use Rattle.meaning.specs.Tree.{processes, leafOf, left, right, parent, ancestor}
-use Rattle.machine.proofs.Numbered.{ancestor-div}
+use Rattle.climb.proofs.Numbered.{ancestor-div}
 use Rattle.counts.specs.Counts.{firstUnder}
 
 less-same-more : (a b : ℕ) → (a < b) ⊎ ((a ≡ b) ⊎ (b < a))

@@ -5,8 +5,6 @@ use native.Mathlib.Omega.{arith}
 use mathlib.Core.Path.{_≡_, refl, sym, ap, _∙_}
 use mathlib.Core.Bool.{Bool, true, false, cond}
 use mathlib.Core.List.{List}
-use borrow.Author.Tests.{ltb-false, lt-ltb, le-ltb}
-use lib.Dec.{ltb}
 use lib.ListN.{length, getD}
 use lib.Seq.{ext-getD}
 use Rattle.sets.specs.Processes.{isIn}
@@ -14,13 +12,14 @@ use Rattle.sets.proofs.Laws.{same-set}
 use Rattle.arrays.proofs.Laws.{same-list}
 use Rattle.meaning.specs.Tree.{leafOf}
 use Rattle.meaning.specs.Access.{Access, starts, readsRoot, readsLeaf, writesLeaf, links, readsLeft, readsRight, stores, attempt, additionSteps, readSteps}
-use Rattle.meaning.specs.Steps.{Memory, Process, stepsOf, accessOf, effect, onward, sawIt, sawLeft, sawRight, atStep, within, nextRecord}
+use Rattle.meaning.specs.Steps.{Memory, Process, stepsOf, accessOf, effect, onward, sawIt, sawLeft, sawRight, atStep, nextRecord}
 use Rattle.arrays.specs.Arrays.{asFun}
 use Rattle.machine.specs.Arrays.{memoryOf, processOf}
-use Rattle.machine.specs.Does.{attemptOf}
-use Rattle.machine.specs.Nexts.{lastStep, CanStep, CanTry, NodeOf, Nexts, effectOf}
+use Rattle.climb.specs.Climb.{CanTry, NodeOf, attemptOf}
+use Rattle.climb.proofs.Numbered.{addition-long, addition-at}
+use Rattle.climb.proofs.Passes.{within-le}
+use Rattle.machine.specs.Nexts.{lastStep, CanStep, Nexts, effectOf}
 use Rattle.machine.specs.declared.Process.{Process as Record}
-use Rattle.machine.proofs.Numbered.{addition-long, addition-at}
 
 -- ---- which access a step is
 
@@ -90,22 +89,6 @@ pub can-try : (h p : ℕ) (r : Record) → CanStep h p r → 3 ≤ r .step → C
 can-try h p r can past =
     let last = last-addition h (r .adds) (addition-past-1 h p r can (omega arith)) in
     record { low = can .low; high = can .high; process = can .process; from = past; to = omega arith }
-
-pub within-in : (n k last : ℕ) → n ≡ k → k ≤ last → within n last ≡ k
-unfolding within
-within-in n k last e b = rw (le-ltb last n (omega arith)) e
-
-pub within-end : (n last : ℕ) → last < n → within n last ≡ 0
-unfolding within
-within-end n last b = rw (lt-ltb last n b)
-
-pub within-le : (n last : ℕ) → within n last ≤ last
-unfolding within
-within-le n last = go (ltb last n) refl
-  where
-    go : (t : Bool) → ltb last n ≡ t → cond t 0 n ≤ last
-    go true e = omega arith
-    go false e = ltb-false last n e
 
 -- ---- what a step leaves as it was
 

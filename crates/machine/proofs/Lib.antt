@@ -1,4 +1,3 @@
 pub mod Joined
 pub mod Laws
-pub mod Numbered
 pub mod Stored

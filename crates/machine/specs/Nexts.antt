@@ -1,9 +1,8 @@
 -- What one step promises: the next record, whether its SC succeeded, and the memory.
-use Prim.Native.Nat.{ℕ, suc, _+_, _-_, _*_, _/_, _^_, _≤_, _<_}
+use Prim.Native.Nat.{ℕ, _+_, _*_, _^_, _≤_, _<_}
 use mathlib.Core.Path.{_≡_}
 use mathlib.Core.Bool.{Bool, cond}
 use mathlib.Core.List.{List}
-use Rattle.meaning.specs.Tree.{leafOf, ancestor}
 use Rattle.meaning.specs.Steps.{Memory, Process, Effect, effect, accessOf, nextRecord}
 use Rattle.machine.specs.Arrays.{memoryOf, processOf}
 use Rattle.machine.specs.declared.Process.{Process as Record}
@@ -19,20 +18,6 @@ pub record CanStep (h p : ℕ) (r : Record) : Type 0 where
   pub process : p < 2 ^ h
   pub busy : 1 ≤ r .step
   pub last : r .step ≤ lastStep h (r .adds)
-
--- the same for a step number of an attempt
-pub record CanTry (h p s : ℕ) : Type 0 where
-  pub low : 1 ≤ h
-  pub high : h ≤ 6
-  pub process : p < 2 ^ h
-  pub from : 3 ≤ s
-  pub to : s ≤ 2 + 8 * h
-
--- the node of that step
-pub record NodeOf (h p s x : ℕ) : Type 0 where
-  pub is : x ≡ ancestor (suc ((s - 3) / 8)) (leafOf h p)
-  pub low : 1 ≤ x
-  pub high : x < 64
 
 unfoldable pub effectOf : ℕ → ℕ → Process → Memory → Effect
 effectOf h p r m = effect p r m (accessOf h p r)

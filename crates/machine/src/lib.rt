@@ -1,5 +1,8 @@
 // A process's record, and its next step on the nodes' values and link sets.
 use cell::Cell;
+use climb::after_store;
+use climb::leaf_of;
+use climb::node_of;
 ghost use Prim.Native.Nat.{ℕ, _+_, _^_, _≤_, _<_};
 ghost use mathlib.Core.Path.{_≡_};
 ghost use mathlib.Core.List.{List};
@@ -7,10 +10,11 @@ ghost use lib.ListN.{length};
 ghost use Rattle.cell.specs.Cell.{stateOf, succeeds};
 ghost use Rattle.meaning.specs.Access.{links as linksAt, stores};
 ghost use Rattle.meaning.specs.Steps.{upd, cellAt, withCell};
+ghost use Rattle.climb.specs.Climb.{attemptOf, afterStore};
 ghost use Rattle.arrays.specs.Arrays.{asFun};
 ghost use Rattle.machine.specs.Arrays.{memoryOf, idleRecord, startedRecord};
-ghost use Rattle.machine.specs.Does.{LeafOf, Does, attemptOf, afterStore};
-ghost use Rattle.machine.specs.Nexts.{CanStep, CanTry, Nexts, NodeOf};
+ghost use Rattle.machine.specs.Does.{Does};
+ghost use Rattle.machine.specs.Nexts.{CanStep, Nexts};
 
 // A step number of 0 is idle. `stored` tells whether the latest access was an SC that succeeded.
 pub struct Process {
@@ -22,38 +26,6 @@ pub struct Process {
     pub operation: u16,
     pub adds: bool,
     pub stored: bool,
-}
-
-fn leaf_of(h: u32, p: usize) -> usize
-    requires { ⌜ h ≤ 6 ⌝ }
-    requires { ⌜ p < 2 ^ h ⌝ }
-    ensures { λ r. ⌜ LeafOf h p r ⌝ }
-{
-    (1usize << h) + p
-}
-
-// The node of a step of an attempt: the ancestor that many levels above the process's leaf.
-pub fn node_of(h: u32, p: usize, s: u32) -> usize
-    requires { ⌜ CanTry h p s ⌝ }
-    ensures { λ r. ⌜ NodeOf h p s r ⌝ }
-{
-    leaf_of(h, p) >> ((s - 3) / 8 + 1)
-}
-
-// The step number after the SC of step s. Its attempt started three steps before: a first one at 3, 11, 19 and so on, a second at 7, 15, 23.
-fn after_store(h: u32, s: u32, ok: bool) -> u32
-    requires { ⌜ h ≤ 6 ⌝ }
-    requires { ⌜ 3 ≤ s ⌝ }
-    requires { ⌜ s ≤ 50 ⌝ }
-    ensures { λ r. ⌜ ((x : ℕ) → r ≡ afterStore h s x ok) ⌝ }
-{
-    let start = s - 3;
-    let to = if ok {
-        if start % 8 < 4 { start + 8 } else { start + 4 }
-    } else {
-        start + 4
-    };
-    if 2 + 8 * h < to { 0 } else { to }
 }
 
 // That an array is as long as its type says: for the proofs alone, nothing is left of a call at run time.
@@ -123,16 +95,12 @@ impl Process {
     pub fn started(operation: u16, adds: bool, delta: u32) -> Process
         ensures { λ r. ⌜ r ≡ startedRecord operation adds delta ⌝ }
     {
-        Process {
-            step: 1,
-            operation,
-            adds,
-            delta,
-            seen: 0,
-            seen_left: 0,
-            seen_right: 0,
-            stored: false,
-        }
+        let mut next = Process::idle();
+        next.step = 1;
+        next.operation = operation;
+        next.adds = adds;
+        next.delta = delta;
+        next
     }
 
     // Step 1: an addition reads its leaf; a read reads the root, and ends.

@@ -20,9 +20,10 @@ use Rattle.meaning.specs.Printed.{rowLine, rowLines, printedOf, printed}
 use Rattle.entries.specs.Promises.{answerOf, Reports}
 use Rattle.entries.specs.declared.Reply.{Reply}
 use Rattle.entries.proofs.Laws.{refusal-positive}
-use Rattle.printing.specs.Text.{kindText, rowText, rowTexts, firstText, refusalText}
-use Rattle.printing.specs.Prints.{Prints, Lays}
-use Rattle.printing.proofs.Laid.{lays-all}
+use Rattle.lines.specs.Text.{kindText, rowText, rowTexts, firstText, reportText, refusalText}
+use Rattle.lines.specs.Lays.{Lays}
+use Rattle.lines.proofs.Laid.{lays-all}
+use Rattle.printing.specs.Prints.{Prints}
 use Rattle.printing.proofs.Fits.{Fits, accepted-fits}
 
 -- ---- a row
@@ -114,22 +115,21 @@ module _ (s t buf after : List ℕ) (r : Reply) (cut : t ≡ take 65537 s) (long
           let its : answerOf r ≡ passes = d ∙ rw (le-leb (needed st) (length buf) (omega (arith, long, accepted-fits t st e .operations))) in
           absurd (some (ap (λ (z : Answer). z .number) its))
 
-  -- how many lines follow the first, and the text
-  pub report-printed : r .number ≡ 0 → (n v : ℕ) → n ≡ numberAt after 1 → v ≡ numberAt after 5
-      → (n / 20 ≤ 1024) × (firstText (n / 20) v ++ rowTexts after (n / 20) ≡ printed s)
-  unfolding answerOf reportAnswer answerWith reportBuffer bufferWith needed
-  report-printed none n v first second = go (outcome t) refl (x .answer) (x .buffer)
+  -- how many rows there are, and the text
+  pub report-printed : r .number ≡ 0 → (numberAt after 1 / 20 ≤ 1024) × (reportText after ≡ printed s)
+  unfolding answerOf reportAnswer answerWith reportBuffer bufferWith needed reportText
+  report-printed none = go (outcome t) refl (x .answer) (x .buffer)
     where
       go : (o : Outcome) → outcome t ≡ o → answerOf r ≡ answerWith o (length buf) → after ≡ bufferWith (height t) o buf
-          → (n / 20 ≤ 1024) × (firstText (n / 20) v ++ rowTexts after (n / 20) ≡ printed s)
+          → (numberAt after 1 / 20 ≤ 1024) × (reportText after ≡ printed s)
       go (refused a) e d b = absurd (omega (arith, refusal-positive t a e, ap (λ (z : Answer). z .number) d))
       go (accepted st) e d b =
           let fits = accepted-fits t st e in
           let room = le-leb (needed st) (length buf) (omega (arith, long, fits .operations)) in
           let rest : List ℕ = drop (needed st) buf in
           let its : after ≡ reportBytes (height t) st ++ rest = b ∙ rw room in
-          let m : n / 20 ≡ st .operations = ap (λ (k : ℕ). k / 20) (first ∙ ap (λ (l : List ℕ). numberAt l 1) its) ∙ operations-shown (height t) st fits rest in
-          let w : v ≡ st .memory .value root = second ∙ ap (λ (l : List ℕ). numberAt l 5) its ∙ counter-shown (height t) st fits rest in (
+          let m : numberAt after 1 / 20 ≡ st .operations = ap (λ (l : List ℕ). numberAt l 1 / 20) its ∙ operations-shown (height t) st fits rest in
+          let w : numberAt after 5 ≡ st .memory .value root = ap (λ (l : List ℕ). numberAt l 5) its ∙ counter-shown (height t) st fits rest in (
             omega (arith, m, fits .operations),
             ap₂ (λ (a b : List ℕ). a ++ b) (ap₂ firstText m w) (ap₂ rowTexts its m) ∙ report-shown (height t) st fits rest
                 ∙ ap (λ (o : Outcome). printedOf (height t) o) (sym e) ∙ text-of,

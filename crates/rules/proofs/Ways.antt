@@ -2,13 +2,13 @@
 use Prim.Native.Nat.{ℕ, _-_, _^_, _≤_, _<_}
 use mathlib.Core.Path.{_≡_}
 use mathlib.Core.Bool.{Bool, true, false}
-use mathlib.Core.List.{List}
+use mathlib.Core.List.{List, [], _∷_}
 use native.Mathlib.Omega.{arith}
 use lib.ListN.{length}
 use lib.Dec.{leb, ltb, eqb}
 use borrow.Author.Tests.{lt-ltb, le-ltb, eq-eqb, ne-eqb, le-leb, lt-leb}
 use Rattle.recording.specs.declared.Event.{Event}
-use Rattle.meaning.specs.Refusals.{firstOf}
+use Rattle.meaning.specs.Refusals.{_when_, firstOf}
 use Rattle.meaning.specs.Layout.{version, follows, height, headRefusal}
 use Rattle.meaning.specs.Tree.{processes}
 use Rattle.meaning.specs.Run.{processOf, isStart}
@@ -73,17 +73,9 @@ module _ (h : ℕ) (e : Event) (b : Bool) (m : ℕ) where
     inside? : leb (2 ^ h) (processOf e) ≡ false
     inside? = lt-leb (2 ^ h) (processOf e) inside
 
-    pub starts-busy : isStart e ≡ true → b ≡ true → 8 ≡ refusalBy h e b m
+    pub starts : isStart e ≡ true → firstOf (8 when b ∷ 10 when leb 1024 m ∷ []) ≡ refusalBy h e b m
     unfolding refusalBy firstOf processes
-    starts-busy s x = simp (inside?, s, x)
-
-    pub too-many : isStart e ≡ true → b ≡ false → 1024 ≤ m → 10 ≡ refusalBy h e b m
-    unfolding refusalBy firstOf processes
-    too-many s x y = simp (inside?, s, x, le-leb 1024 m y)
-
-    pub starts : isStart e ≡ true → b ≡ false → m < 1024 → 0 ≡ refusalBy h e b m
-    unfolding refusalBy firstOf processes
-    starts s x y = simp (inside?, s, x, lt-leb 1024 m y)
+    starts s = simp (inside?, s)
 
     pub steps : isStart e ≡ false → b ≡ true → 0 ≡ refusalBy h e b m
     unfolding refusalBy firstOf processes

@@ -3,6 +3,8 @@ use recording::Event;
 use recording::number;
 ghost use Prim.Native.Nat.{_^_, _≤_};
 ghost use mathlib.Core.Path.{_≡_};
+ghost use mathlib.Core.List.{[], _∷_};
+ghost use Rattle.meaning.specs.Refusals.{_when_, firstOf};
 ghost use Rattle.meaning.specs.Layout.{headRefusal};
 ghost use Rattle.meaning.specs.Run.{processOf, isStart};
 ghost use Rattle.rules.specs.Rules.{refusalBy};
@@ -33,13 +35,19 @@ pub fn header(s: &[u8]) -> u32
     0
 }
 
+fn wide(x: u8) -> usize
+    ensures { λ r. ⌜ r ≡ x ⌝ }
+{
+    x as usize
+}
+
 pub fn process_of(e: Event) -> usize
     ensures { λ r. ⌜ r ≡ processOf e ⌝ }
 {
     match e {
-        Event::Step(p) => p as usize,
-        Event::Read(p) => p as usize,
-        Event::Add(p, _) => p as usize,
+        Event::Step(p) => wide(p),
+        Event::Read(p) => wide(p),
+        Event::Add(p, _) => wide(p),
     }
 }
 
@@ -61,6 +69,16 @@ fn processes(h: u32) -> usize
     1usize << h
 }
 
+// x where a holds, otherwise y where b holds, otherwise 0.
+fn first_of(a: bool, x: u32, b: bool, y: u32) -> u32
+    ensures { λ r. ⌜ r ≡ firstOf (x when a ∷ y when b ∷ []) ⌝ }
+{
+    if a {
+        return x;
+    }
+    if b { y } else { 0 }
+}
+
 // The refusal of a record, or 0.
 pub fn refusal(h: u32, e: Event, busy: bool, m: u32) -> u32
     requires { ⌜ h ≤ 6 ⌝ }
@@ -69,14 +87,9 @@ pub fn refusal(h: u32, e: Event, busy: bool, m: u32) -> u32
     if processes(h) <= process_of(e) {
         return 7;
     }
+    let full = 1024 <= m;
     if is_start(e) {
-        if busy {
-            return 8;
-        }
-        if 1024 <= m {
-            return 10;
-        }
-        return 0;
+        return first_of(busy, 8, full, 10);
     }
     if busy { 0 } else { 9 }
 }

@@ -8,12 +8,12 @@ use Rattle.cell.specs.Cell.{readOf}
 use Rattle.meaning.specs.Tree.{left, right}
 use Rattle.meaning.specs.Access.{writesLeaf}
 use Rattle.meaning.specs.Steps.{cellAt, withValue, effect, onward, sawLeft, sawRight, atStep, plus}
+use Rattle.climb.specs.Climb.{CanTry, afterStore}
+use Rattle.climb.proofs.Passes.{within-in}
 use Rattle.arrays.specs.Arrays.{asFun}
 use Rattle.machine.specs.Arrays.{memoryOf, processOf}
-use Rattle.machine.specs.Does.{afterStore}
-use Rattle.machine.specs.Nexts.{CanTry}
 use Rattle.machine.proofs.Joined.{joined}
-use Rattle.machine.proofs.Laws.{leaf-write, link-at, left-at, right-at, store-at, last-addition, addition-past-1, can-try, within-in}
+use Rattle.machine.proofs.Laws.{leaf-write, link-at, left-at, right-at, store-at, last-addition, addition-past-1, can-try}
 use Rattle.machine.proofs.Stored.{value-stored}
 use Rattle.machine.proofs.Process.next.Statement.{statement}
 use Rattle.machine.proofs.Process.next.Tie as tie
@@ -88,13 +88,15 @@ returns-2 c =
     let a = c .before .before .before .before .before .args in
     let step = c .before .before .before .before .match .keys2 in
     let adds = addition-past-1 _ _ _ (c .before .before .before .before .before .pre) (omega arith) in
+    let add = c .before .before .before .wrapping-add-u32 in
+    let sum : add .result ≡ plus (a .self .seen) (a .self .delta) = omega (arith, add .ensures) in
     joined
     (leaf-write _ _ _ adds step ∙ ap writesLeaf (sym (c .before .leaf-of .ensures .is)))
     (within-in _ 3 _ (omega arith) (omega (arith, last-addition (a .h) _ adds)))
     (record {
       process = refl;
       stored = refl;
-      memory = value-stored _ _ _ _ _ (c .put-value .ensures) ∙ ap (withValue _ _) (c .before .before .before .wrapping-add-u32 .ensures);
+      memory = value-stored _ _ _ _ _ (c .put-value .ensures) ∙ ap (withValue _ _) sum;
     })
 
 returns-3 : tie.Need-returns-3

@@ -9,7 +9,8 @@ use Rattle.meaning.specs.Steps.{cellAt, effect, onward, sawIt, atStep}
 use Rattle.arrays.specs.Arrays.{asFun}
 use Rattle.machine.specs.Arrays.{memoryOf, processOf}
 use Rattle.machine.proofs.Joined.{joined}
-use Rattle.machine.proofs.Laws.{root-read, leaf-read, last-read, last-addition, within-in, within-end}
+use Rattle.climb.proofs.Passes.{within-in, within-end}
+use Rattle.machine.proofs.Laws.{root-read, leaf-read, last-read, last-addition}
 use Rattle.machine.proofs.Process.read.Statement.{statement}
 use Rattle.machine.proofs.Process.read.Tie as tie
 

@@ -1,12 +1,32 @@
--- `Process::started`: the record, field by field.
-use mathlib.Core.Path.{refl}
-use Rattle.machine.specs.Arrays.{startedRecord}
+-- `Process::started`: an idle record with four fields set.
+use Prim.Native.Nat.{ℕ}
+use mathlib.Core.Path.{ap}
+use mathlib.Core.Bool.{Bool}
+use borrow.Author.Needs.{needs}
+use Rattle.machine.specs.Arrays.{idleRecord, startedRecord}
+use Rattle.machine.specs.declared.Process.{Process as Record}
 use Rattle.machine.proofs.Process.started.Statement.{statement}
 use Rattle.machine.proofs.Process.started.Tie as tie
 
+abbrev set : ℕ → Bool → ℕ → Record → Record
+set i adds delta r =
+    record {
+      step = 1;
+      operation = i;
+      adds = adds;
+      delta = delta;
+      seen = r .seen;
+      «seen_left» = r .«seen_left»;
+      «seen_right» = r .«seen_right»;
+      stored = r .stored;
+    }
+
+idle-requires : tie.Need-idle-requires
+idle-requires c κs = search needs
+
 returns : tie.Need-returns
-unfolding startedRecord
-returns c = refl
+unfolding idleRecord startedRecord
+returns c = ap (set (c .before .args .operation) (c .before .args .adds) (c .before .args .delta)) (c .idle .ensures)
 
 pub started-spec : {M : Type 1} → statement M
-started-spec = tie.close (tie.spec returns)
+started-spec = tie.close (tie.spec idle-requires returns)

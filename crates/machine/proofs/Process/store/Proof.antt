@@ -1,12 +1,13 @@
 -- `store`: the cell that `sc` gives is stored, its answer kept, and `after_store` says where the process goes on.
 use Prim.Native.Nat.{ℕ}
 use mathlib.Core.Path.{_≡_, ap, ap₂, _∙_}
+use native.Mathlib.Omega.{arith}
 use borrow.Author.Needs.{needs}
 use denote.Ref.{now}
 use Rattle.cell.specs.Cell.{State, succeeds, storeConditional}
 use Rattle.meaning.specs.Steps.{cellAt, withCell, effect, atStep, plus}
 use Rattle.machine.specs.Arrays.{memoryOf, processOf}
-use Rattle.machine.specs.Does.{afterStore}
+use Rattle.climb.specs.Climb.{afterStore}
 use Rattle.machine.proofs.Process.store.Statement.{statement}
 use Rattle.machine.proofs.Process.store.Tie as tie
 
@@ -30,8 +31,9 @@ unfolding processOf effect atStep plus
 returns c =
     let sc = c .before .before .before .before .sc in
     let was = c .before .before .before .before .before .cell-at .ensures in
-    let sum = c .before .before .before .before .before .before .before .before .wrapping-add-u32 .ensures in
+    let add = c .before .before .before .before .before .before .before .before .wrapping-add-u32 in
     let a = c .before .before .before .before .before .before .before .before .before .args in
+    let sum : add .result ≡ plus (a .self .«seen_left») (a .self .«seen_right») = omega (arith, add .ensures) in
     let ok : sc .result .ok ≡ succeeds (a .p) (cellAt (memoryOf (now (a .vals)) (now (a .links))) (a .x)) = sc .ensures .ok ∙ ap (succeeds (a .p)) was in
     let cell = sc .ensures .cell ∙ ap₂ (λ (u : ℕ) (q : State). storeConditional u (a .p) q) sum was in
     record {

@@ -1,0 +1,41 @@
+-- `lay_refusal`: four parts one after another.
+use borrow.Author.Needs.{needs}
+use Rattle.meaning.specs.Printed.{text}
+use Rattle.lines.proofs.Laid.{lays-then, lays-as}
+use Rattle.lines.proofs.Texts.{refusal-parts}
+use Rattle.lines.proofs.lay_refusal.Statement.{statement}
+use Rattle.lines.proofs.lay_refusal.Tie as tie
+
+slice-aggregate-lay-word : tie.Need-slice-aggregate-lay-word
+slice-aggregate-lay-word c = search needs
+
+lay-word-requires : tie.Need-lay-word-requires
+lay-word-requires c κs = search needs
+
+lay-field-requires : tie.Need-lay-field-requires
+lay-field-requires c κs = search needs
+
+lay-field-requires-2 : tie.Need-lay-field-requires-2
+lay-field-requires-2 c κs = search needs
+
+end-line-requires : tie.Need-end-line-requires
+end-line-requires c κs = search needs
+
+returns : tie.Need-returns
+unfolding text
+returns c =
+    let place = c .before .before in
+    let number = place .before .before in
+    let word = number .before .before in
+    (lays-as (refusal-parts _ _) (lays-then (lays-then (lays-then (word .lay-word .ensures) (number .lay-field .ensures .0)) (place .lay-field2 .ensures .0)) (c .end-line .ensures .0)), search needs)
+
+pub lay-refusal-spec : {M : Type 1} → statement M
+lay-refusal-spec =
+    tie.close
+    (tie.spec
+    slice-aggregate-lay-word
+    lay-word-requires
+    lay-field-requires
+    lay-field-requires-2
+    end-line-requires
+    returns)
