@@ -1,13 +1,16 @@
--- What callers want of `between` and of `countsAfter`: what each is in each of its cases.
+-- What callers want of `between` and of `countsAfter`: what each is in each of its cases; and that the contract of `take_in` allows one outcome.
 use Prim.Native.Nat.{ℕ, suc, _+_, _^_, _≤_, _<_}
 use mathlib.Core.Bool.{Bool, true, false, cond, _&&_}
-use mathlib.Core.Path.{_≡_, refl, _∙_, fun-ext}
+use mathlib.Core.List.{List, []}
+use mathlib.Core.Path.{_≡_, refl, sym, ap, _∙_, fun-ext}
 use native.Mathlib.Omega.{arith}
+use lib.ListN.{length, getD}
+use lib.Seq.{ext-getD}
 use lib.Dec.{leb, ltb, eqb}
 use borrow.Author.Tests.{ltb-true, ltb-false, leb-true, leb-false, le-leb, lt-leb, ne-eqb}
-use Rattle.arrays.proofs.Laws.{upd-other}
-use Rattle.arrays.specs.Arrays.{between}
-use Rattle.counts.specs.Counts.{Counts, levelAt, positionAt, firstUnder, wrote, readOver, storedOver, attempted, countsAfter}
+use Rattle.arrays.specs.Arrays.{asRows, between}
+use Rattle.arrays.proofs.Laws.{upd-other, same-list}
+use Rattle.counts.specs.Counts.{Counts, levels, countsOf, levelAt, positionAt, firstUnder, wrote, readOver, storedOver, attempted, countsAfter}
 
 module _ (lo hi : ℕ) (g f : ℕ → ℕ) where
   -- by whether q lies from lo up to hi, with `between` already computed
@@ -105,3 +108,26 @@ module _ (p s : ℕ) (stored : Bool) (c : Counts) where
       either : (t : Bool) (a b : Counts) → a .read r ≡ c .read r → b .read r ≡ c .read r → cond t a b .read r ≡ c .read r
       either true a b x y = x
       either false a b x y = y
+
+-- ---- one outcome
+
+-- arrays of rows that are as many and as long, and have one function, are one
+pub record SameSizes (xs ys : List (List ℕ)) : Type 0 where
+  pub rows : length xs ≡ length ys
+  pub each : (i : ℕ) → length (getD xs i []) ≡ length (getD ys i [])
+
+same-rows-list : {xs ys : List (List ℕ)} → SameSizes xs ys → asRows xs ≡ asRows ys → xs ≡ ys
+unfolding asRows
+same-rows-list {xs} {ys} s e = ext-getD [] xs ys (s .rows) (λ i _. same-list (getD xs i []) (getD ys i []) (s .each i) (ap (λ f. f i) e))
+
+-- Two outcomes with the counts that the contract of `take_in` says have the same arrays; their sizes are those of their types, and of the
+-- rows that were lent.
+pub counts-one : {counts₁ counts₂ read₁ read₂ : List (List ℕ)} {written₁ written₂ : List ℕ} (c : Counts)
+    → SameSizes counts₁ counts₂ → length written₁ ≡ length written₂ → SameSizes read₁ read₂
+    → countsOf counts₁ written₁ read₁ ≡ c → countsOf counts₂ written₂ read₂ ≡ c
+    → (counts₁ ≡ counts₂) × (written₁ ≡ written₂) × (read₁ ≡ read₂)
+unfolding countsOf levels
+counts-one {written₁ = written₁} {written₂ = written₂} c nodes leaves reads x y =
+    let e = x ∙ sym y in
+    let at : (l : ℕ) → levels _ _ l ≡ levels _ _ l = λ l. ap (λ (d : Counts). d .inNode l) e in
+    (same-rows-list nodes (fun-ext (λ l. at (suc l))), same-list written₁ written₂ leaves (at 0), same-rows-list reads (ap (λ (d : Counts). d .read) e))

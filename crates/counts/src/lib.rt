@@ -13,23 +13,17 @@ fn larger(a: u16, b: u16) -> u16
     if a < b { b } else { a }
 }
 
-// The row of counts at a level above the leaves, by value.
-pub fn row_of(counts: [[u16; 64]; 6], level: usize) -> [u16; 64]
+// The row of counts at a level above the leaves.
+pub fn row_of(counts: &[[u16; 64]; 6], level: usize) -> [u16; 64]
     requires { ⌜ level < 6 ⌝ }
-    ensures { λ r. ⌜ r ≡ getD counts level [] ⌝ }
+    ensures { λ r. ⌜ r ≡ getD (now (counts .entry)) level [] ⌝ }
 {
     counts[level]
 }
 
-// The two below do nothing: through a reference a proof does not know an array's length, and learns it by their contracts.
+// It does nothing: through a reference a proof does not know an array's length, and learns it by this contract.
 fn sixty_four_counts(a: [u16; 64]) -> bool
     ensures { λ r. ⌜ length a ≡ 64 ⌝ }
-{
-    true
-}
-
-fn six_rows(a: [[u16; 64]; 6]) -> bool
-    ensures { λ r. ⌜ length a ≡ 6 ⌝ }
 {
     true
 }
@@ -68,18 +62,26 @@ fn read_child(
     }
 }
 
-// The successful SC of process p at a node at level l + 1, for the processes lo to hi - 1.
-fn store(counts: &mut [[u16; 64]; 6], read: &[[u16; 64]], p: usize, l: usize, lo: usize, hi: usize)
+// The successful SC of process p at a node at level l + 1, for the processes lo to hi - 1: the counts by value, in and out.
+fn store(
+    counts: [[u16; 64]; 6],
+    read: &[[u16; 64]],
+    p: usize,
+    l: usize,
+    lo: usize,
+    hi: usize,
+) -> [[u16; 64]; 6]
     requires { ⌜ (p < 64) × (p < length (now read)) ⌝ }
     requires { ⌜ l < 6 ⌝ }
     requires { ⌜ hi ≤ 64 ⌝ }
-    ensures { λ r. ⌜ ((w : List ℕ) → countsOf (now (counts .exit)) w (now (read .entry)) ≡ storedOver p (suc l) lo hi (countsOf (now (counts .entry)) w (now (read .entry)))) ⌝ }
+    ensures { λ r. ⌜ ((w : List ℕ) → countsOf r w (now (read .entry)) ≡ storedOver p (suc l) lo hi (countsOf counts w (now (read .entry)))) ⌝ }
 {
-    six_rows(*counts);
-    sixty_four_counts(counts[l]);
+    let mut after = counts;
+    sixty_four_counts(after[l]);
     for q in lo..hi {
-        counts[l][q] = larger(counts[l][q], read[p][q]);
+        after[l][q] = larger(after[l][q], read[p][q]);
     }
+    after
 }
 
 // How many leaves lie under a node at level l.
@@ -121,7 +123,7 @@ fn attempt(
         2 => read_child(counts, written, read, p, l, mid, hi),
         3 => {
             if stored {
-                store(counts, read, p, l, lo, hi);
+                *counts = store(*counts, read, p, l, lo, hi);
             }
         }
         _ => {}

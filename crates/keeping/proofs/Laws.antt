@@ -1,78 +1,35 @@
--- What callers want of a step: its cases, that the rows keep their room, that its contract allows one outcome, and what the arrays must have
--- room for, said of what is kept.
-use Prim.Native.Nat.{ℕ, _+_, _*_, _%_, _≤_, _<_}
-use mathlib.Core.Path.{_≡_, refl, sym, _∙_}
-use mathlib.Core.Bool.{Bool, true, false, cond}
-use mathlib.Core.List.{List, [], _∷_, _++_, append-nil}
+-- What callers want of a step: its cases, that the rows keep their room, and that its contract allows one outcome.
+use Prim.Native.Nat.{ℕ, _+_, _*_, _%_}
+use mathlib.Core.Path.{_≡_, refl, sym, ap, _∙_}
+use mathlib.Core.Bool.{Bool, true, false}
+use mathlib.Core.List.{List}
 use native.Mathlib.Omega.{arith}
 use lib.Dec.{eqb}
-use borrow.Author.Tests.{lt-leb, le-leb, ne-eqb, eq-eqb}
 use Rattle.meaning.specs.Steps.{Process}
-use Rattle.meaning.specs.TakenIn.{keep}
-use Rattle.taken.specs.CountIn.{Waiter}
-use Rattle.counts.specs.Counts.{Counts, countsAfter}
-use Rattle.rows.specs.Rows.{RoomToStep}
-use Rattle.listing.specs.Queue.{isCounted, operationsOf}
-use Rattle.listing.proofs.Laws.{ranked-beside}
-use Rattle.ledger.specs.Kept.{Kept, atRoot, queueThen, listThen, waitThen, rowThen, readStep, additionStep, keptStep, secondLink}
-use Rattle.keeping.specs.Keeping.{additionListed, readListed}
+use Rattle.arrays.specs.Arrays.{asFun}
+use Rattle.rows.specs.Rows.{withRow, steppedNumbers, RoomToStep}
+use Rattle.listing.specs.declared.Listed.{Listed}
+use Rattle.ledger.specs.Kept.{Kept, rowThen, readStep, additionStep, keptStep, secondLink}
+use Rattle.machine.specs.declared.Process.{Process as Record}
+use Rattle.placing.specs.Placing.{keptOf, CanPlace, additionPlaced, readPlaced}
+use Rattle.placing.proofs.Laws.{kept-is, addition-beside}
+use Rattle.keeping.specs.Keeping.{CanKeep}
 
--- what is kept is settled by its four parts
-pub kept-is : {a b : Kept} → a .counts ≡ b .counts → a .queue ≡ b .queue → a .listed ≡ b .listed → a .rows ≡ b .rows → a ≡ b
-kept-is c q l r = λ i. record { counts = c i; queue = q i; listed = l i; rows = r i }
-
--- ---- a store at node 1, or not
-
-module _ (h s : ℕ) {stored : Bool} where
-  pub at-root : stored ≡ true → 8 * h ≤ s + 5 → atRoot h s stored ≡ true
-  unfolding atRoot
-  at-root e i = rw (e, le-leb (8 * h) (s + 5) i)
-
-  pub not-stored : stored ≡ false → atRoot h s stored ≡ false
-  unfolding atRoot
-  not-stored e = rw e
-
-pub below-root : (h s : ℕ) (stored : Bool) → s + 5 < 8 * h → atRoot h s stored ≡ false
-unfolding atRoot
-below-root h s true i = lt-leb (8 * h) (s + 5) i
-below-root h s false i = refl
-
--- ---- the listing of an addition's step
-
-module _ (h p : ℕ) (r : Process) (stored : Bool) (k : Kept) where
-  pub queue-joined : r .step ≡ 2 → queueThen p r k ≡ k .queue ++ (record { operation = r .operation; process = p; turn = k .counts .inNode 0 p } ∷ [])
-  unfolding queueThen
-  queue-joined e = rw (eq-eqb (r .step) 2 e)
-
-  pub queue-stays : (r .step ≡ 2 → ⊥) → queueThen p r k ≡ k .queue
-  unfolding queueThen
-  queue-stays n = rw (ne-eqb (r .step) 2 n, append-nil)
-
-  pub waits : atRoot h (r .step) stored ≡ false
-      → additionListed h p r stored k ≡ waitThen (queueThen p r k) (countsAfter p (r .step) stored (k .counts)) k
-  unfolding additionListed
-  waits e = rw e
-
-  pub lists : atRoot h (r .step) stored ≡ true → (r .step ≡ 2 → ⊥)
-      → additionListed h p r stored k
-      ≡ listThen (countsAfter p (r .step) stored (k .counts) .inNode h) (k .queue) (countsAfter p (r .step) stored (k .counts)) k
-  unfolding additionListed
-  lists e n = rw (e, queue-stays n)
-
-  -- an addition's listing changes ranks alone
-  pub addition-beside : (j : ℕ) → (j % 5 ≡ 3 → ⊥) → additionListed h p r stored k .rows j ≡ k .rows j
-  unfolding additionListed listThen waitThen
-  addition-beside j n = go (atRoot h (r .step) stored)
-    where
-      c : Counts
-      c = countsAfter p (r .step) stored (k .counts)
-
-      ws : List Waiter
-      ws = queueThen p r k
-
-      go : (t : Bool) → cond t (listThen (c .inNode h) ws c k) (waitThen ws c k) .rows j ≡ k .rows j
-      go true = ranked-beside (operationsOf (keep (isCounted (c .inNode h)) ws)) (k .listed) (k .rows) j n
-      go false = refl
+-- a step that can be kept can be placed
+pub can-place : {h p : ℕ} {r : Record} {writes : List ℕ} {reads : List (List ℕ)} {waiters turns numbers : List ℕ} {l : Listed}
+    → CanKeep h p r writes reads waiters turns numbers l → CanPlace h p r writes reads waiters turns numbers l
+can-place can =
+    record {
+      low = can .low;
+      high = can .high;
+      process = can .process;
+      reader = can .reader;
+      step = can .step;
+      written = can .written;
+      queue = can .queue;
+      operation = can .operation;
+      waiting = can .waiting;
+    }
 
 -- where ranks alone have changed, there is room for a step as there was
 pub room-stays : {f : ℕ → ℕ} {i : ℕ} (g : ℕ → ℕ) → RoomToStep f i → ((j : ℕ) → (j % 5 ≡ 3 → ⊥) → g j ≡ f j) → RoomToStep g i
@@ -84,17 +41,34 @@ room-stays {f} {i} g room beside =
       seconds = rw (beside (5 * i + 4) (λ e. omega arith)) (room .seconds);
     }
 
+-- after an addition's listing there is room in its row as before
+pub addition-room : (counts counts′ read read′ : List (List ℕ)) (written written′ queue queue′ turns turns′ rows rows′ : List ℕ)
+    (listed listed′ : Listed) (h p : ℕ) (r : Process) (stored : Bool) {i : ℕ}
+    → keptOf counts′ written′ read′ queue′ turns′ rows′ listed′
+    ≡ additionPlaced h p r stored (keptOf counts written read queue turns rows listed) → RoomToStep (asFun rows) i → RoomToStep (asFun rows′) i
+unfolding keptOf
+addition-room counts counts′ read read′ written written′ queue queue′ turns turns′ rows rows′ listed listed′ h p r stored e room =
+    let k : Kept = keptOf counts written read queue turns rows listed in
+    room-stays (asFun rows′) room (λ j n. ap (λ (x : Kept). x .rows j) e ∙ addition-beside h p r stored k j n)
+
+-- one more step in a row
+pub row-steps : (counts read : List (List ℕ)) (written queue turns rows rows′ : List ℕ) (listed : Listed) (i : ℕ) (finished : Bool) (answer : ℕ)
+    (second : Bool) → asFun rows′ ≡ withRow (asFun rows) i (steppedNumbers (asFun rows) i finished answer second)
+    → keptOf counts written read queue turns rows′ listed ≡ rowThen i finished answer second (keptOf counts written read queue turns rows listed)
+unfolding keptOf rowThen
+row-steps counts read written queue turns rows rows′ listed i finished answer second e = kept-is refl refl refl e
+
 -- ---- a step: its listing, and one more step in the operation's row
 
 module _ (h p : ℕ) (r r′ : Process) (stored : Bool) (k : Kept) where
   pub addition-step : r .adds ≡ true
-      → keptStep h p r r′ stored k ≡ rowThen (r .operation) (eqb (r′ .step) 0) 0 (secondLink (r .step)) (additionListed h p r stored k)
-  unfolding keptStep additionStep additionListed
+      → keptStep h p r r′ stored k ≡ rowThen (r .operation) (eqb (r′ .step) 0) 0 (secondLink (r .step)) (additionPlaced h p r stored k)
+  unfolding keptStep additionStep additionPlaced
   addition-step e = rw e
 
   pub read-step : r .adds ≡ false
-      → keptStep h p r r′ stored k ≡ rowThen (r .operation) (eqb (r′ .step) 0) (r′ .seen) false (readListed (r .operation) k)
-  unfolding keptStep readStep readListed
+      → keptStep h p r r′ stored k ≡ rowThen (r .operation) (eqb (r′ .step) 0) (r′ .seen) false (readPlaced (r .operation) k)
+  unfolding keptStep readStep readPlaced
   read-step e = rw e
 
 -- whatever the arrays are, what is kept after the step is one

@@ -7,16 +7,21 @@ use mathlib.Core.List.{List, [], _∷_, _++_, List·Memᴰ, List·Memᴰ·head, 
 use native.Mathlib.Nat.{add-zero}
 use native.Mathlib.Numerals.{add-one}
 use native.Mathlib.Omega.{arith}
-use lib.ListN.{length, length-append}
+use lib.ListN.{length, set, length-append}
 use lib.Dec.{eqb}
 use borrow.Author.Count.{below-more}
 use borrow.Author.Tests.{eq-eqb, eqb-true}
 use Rattle.meaning.specs.Steps.{upd}
 use Rattle.meaning.specs.TakenIn.{keep, further, positionOf}
-use Rattle.arrays.proofs.Laws.{upd-same, upd-other}
+use Rattle.arrays.specs.Arrays.{asFun}
+use Rattle.arrays.proofs.Laws.{fun-set, upd-same, upd-other}
 use Rattle.taken.specs.CountIn.{Waiter}
 use Rattle.listing.specs.Queue.{waiterAt, queueOf, isCounted, ranked, Lists}
 use Rattle.listing.specs.declared.Listed.{Listed}
+
+-- a store of v, which is w
+pub stored-as : (xs : List ℕ) (i v w : ℕ) → i < length xs → v ≡ w → asFun (set xs i v) ≡ upd (asFun xs) i w
+stored-as xs i v w h e = fun-set xs i v h ∙ ap (upd (asFun xs) i) e
 
 -- ---- a property of every element of a list
 

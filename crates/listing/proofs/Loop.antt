@@ -135,18 +135,19 @@ module _ {q₀ t₀ f₀ : List ℕ} {count : ℕ → ℕ} {waiting k : ℕ} {qu
           done = rw (next, fun-set rows _ (rank + 1) at) (counted (w .done) _ _ (lt-ltb _ _ less));
         }
 
-    pub keeps-it : count (getD queue j 0 % 64) ≤ getD turns j 0
-        → Walk q₀ t₀ f₀ count waiting k (set queue kept (getD queue j 0)) (set turns kept (getD turns j 0)) rows rank (kept + 1) (j + 1)
+    pub keeps-it : {after : ℕ} → after ≡ kept + 1 → count (getD queue j 0 % 64) ≤ getD turns j 0
+        → Walk q₀ t₀ f₀ count waiting k (set queue kept (getD queue j 0)) (set turns kept (getD turns j 0)) rows rank after (j + 1)
     unfolding asFun isCounted
-    keeps-it not-less =
+    keeps-it e not-less =
         let r = room in
         let at = fun-set queue kept (getD queue j 0) (omega (arith, r .index, r .fewer)) in
         let at′ = fun-set turns kept (getD turns j 0) (omega (arith, r .turn, r .fewer)) in
-        record {
+        rw e
+        (record {
           can = w .can;
           within = omega arith;
           lengths = (rw length-set (w .lengths .0), rw length-set (w .lengths .1), w .lengths .2);
           queued = λ m l. getD-set-other queue kept m (getD queue j 0) 0 (λ e. omega arith) ∙ w .queued m (omega arith);
           turned = λ m l. getD-set-other turns kept m (getD turns j 0) 0 (λ e. omega arith) ∙ w .turned m (omega arith);
           done = rw (next, at, at′) (waits (w .done) _ _ (le-ltb _ _ not-less));
-        }
+        })

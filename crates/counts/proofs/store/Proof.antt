@@ -9,26 +9,22 @@ use Rattle.counts.proofs.store.Statement.{statement}
 use Rattle.counts.proofs.store.Tie as tie
 
 abbrev Inv-loop : tie.InvT-loop
-Inv-loop counts₀ read p l lo hi q₀ counts q = RowFilled l lo hi (λ (j : ℕ). max (asRows counts₀ l j) (asRows read p j)) counts₀ counts q
+Inv-loop read p l lo hi after₀ q₀ after q = RowFilled l lo hi (λ (j : ℕ). max (asRows after₀ l j) (asRows read p j)) after₀ after q
 
 abbrev μ-loop : tie.MeasureT-loop
-μ-loop counts₀ read p l lo hi q₀ counts q = hi - q
-
-six-rows-requires : tie.Need-six-rows-requires Inv-loop μ-loop
-six-rows-requires c κs = search needs
+μ-loop read p l lo hi after₀ q₀ after q = hi - q
 
 mul-sixty-four-counts : tie.Need-mul-sixty-four-counts Inv-loop μ-loop
 mul-sixty-four-counts c = search needs
 
-element-copy-out-sixty-four-counts : tie.Need-element-copy-out-sixty-four-counts Inv-loop μ-loop
-element-copy-out-sixty-four-counts c = search needs
+array-copy-out-sixty-four-counts : tie.Need-array-copy-out-sixty-four-counts Inv-loop μ-loop
+array-copy-out-sixty-four-counts c = search needs
 
 sixty-four-counts-requires : tie.Need-sixty-four-counts-requires Inv-loop μ-loop
 sixty-four-counts-requires c κs = search needs
 
 loop-holds : tie.Need-loop-holds Inv-loop μ-loop
-loop-holds c =
-    no-row _ _ _ _ _ (search needs) ((c .sixty-four-counts) .ensures)
+loop-holds c = no-row _ _ _ _ _ (search needs) (c .sixty-four-counts .ensures)
 
 mul-larger : tie.Need-mul-larger Inv-loop μ-loop
 mul-larger c = search needs
@@ -37,8 +33,7 @@ mul-larger-2 : tie.Need-mul-larger-2 Inv-loop μ-loop
 mul-larger-2 c = search needs
 
 index-1-larger : tie.Need-index-1-larger Inv-loop μ-loop
-index-1-larger c =
-    omega (arith, same-rows _ _ _ _ _ ((c .before .loop) .inv), (c .before .loop) .inv .inside)
+index-1-larger c = omega (arith, same-rows _ _ _ _ _ (c .before .loop .inv), c .before .loop .inv .inside)
 
 index-2-larger : tie.Need-index-2-larger Inv-loop μ-loop
 index-2-larger c = search needs
@@ -58,18 +53,18 @@ index-2-larger-2 c = search needs
 larger-requires : tie.Need-larger-requires Inv-loop μ-loop
 larger-requires c κs = search needs
 
-mul-counts : tie.Need-mul-counts Inv-loop μ-loop
-mul-counts c = search needs
+mul-after : tie.Need-mul-after Inv-loop μ-loop
+mul-after c = search needs
 
-mul-counts-2 : tie.Need-mul-counts-2 Inv-loop μ-loop
-mul-counts-2 c = search needs
+mul-after-2 : tie.Need-mul-after-2 Inv-loop μ-loop
+mul-after-2 c = search needs
 
-index-1-counts : tie.Need-index-1-counts Inv-loop μ-loop
-index-1-counts c =
-    omega (arith, same-rows _ _ _ _ _ ((c .before .before .before .before .loop) .inv), (c .before .before .before .before .loop) .inv .inside)
+index-1-after : tie.Need-index-1-after Inv-loop μ-loop
+index-1-after c =
+    omega (arith, same-rows _ _ _ _ _ (c .before .before .before .before .loop .inv), c .before .before .before .before .loop .inv .inside)
 
-index-2-counts : tie.Need-index-2-counts Inv-loop μ-loop
-index-2-counts c = search needs
+index-2-after : tie.Need-index-2-after Inv-loop μ-loop
+index-2-after c = search needs
 
 add-q : tie.Need-add-q Inv-loop μ-loop
 add-q c = search needs
@@ -80,8 +75,8 @@ loop-less c = search needs
 loop-again : tie.Need-loop-again Inv-loop μ-loop
 unfolding asFun asRows
 loop-again c =
-    let w = (c .before .before .before .before .loop) .inv in
-    more-row _ _ _ _ _ w (search needs) (search needs) (rw (← untouched _ _ _ _ (w .row)) ((c .larger) .ensures))
+    let w = c .before .before .before .before .loop .inv in
+    more-row _ _ _ _ _ w (search needs) (search needs) (rw (← untouched _ _ _ _ (w .row)) (c .larger .ensures))
 
 returns : tie.Need-returns Inv-loop μ-loop
 returns c written = node-stored _ _ _ _ _ _ _ _ (all-row _ _ _ _ _ (c .before .loop .inv) (search needs))
@@ -92,9 +87,8 @@ store-spec =
     (tie.spec
     Inv-loop
     μ-loop
-    six-rows-requires
     mul-sixty-four-counts
-    element-copy-out-sixty-four-counts
+    array-copy-out-sixty-four-counts
     sixty-four-counts-requires
     loop-holds
     mul-larger
@@ -106,10 +100,10 @@ store-spec =
     index-1-larger-2
     index-2-larger-2
     larger-requires
-    mul-counts
-    mul-counts-2
-    index-1-counts
-    index-2-counts
+    mul-after
+    mul-after-2
+    index-1-after
+    index-2-after
     add-q
     loop-less
     loop-again

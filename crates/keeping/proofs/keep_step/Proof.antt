@@ -1,13 +1,30 @@
--- `keep_step`: the step, or nothing to show.
-use mathlib.Core.Path.{sym, _∙_}
+-- `keep_step`: the listing of the step, and then its row, which has room as before; or nothing to show.
+use mathlib.Core.Path.{sym, ap, _∙_}
+use Rattle.listing.proofs.Laws.{ranked-beside}
+use Rattle.machine.specs.Arrays.{processOf}
+use Rattle.ledger.specs.Kept.{rowThen}
 use Rattle.ledger.proofs.Good.{false-true}
+use Rattle.placing.proofs.Steps.{reads}
+use Rattle.keeping.proofs.Laws.{can-place, room-stays, addition-room, row-steps, addition-step, read-step}
+use native.Mathlib.Omega.{arith}
 use borrow.Author.Needs.{needs}
 use Rattle.keeping.proofs.keep_step.Statement.{statement}
 use Rattle.keeping.proofs.keep_step.Tie as tie
 
-take-step-requires : tie.Need-take-step-requires
-take-step-requires c κs =
-    (c .before .before .before .before .before .before .before .before .before .before .pre) ((c .before .before .before .before .before .before .if1) .taken)
+cast-i : tie.Need-cast-i
+cast-i c = search needs
+
+place-addition-requires : tie.Need-place-addition-requires
+place-addition-requires c κs = can-place (c .before .before .before .before .before .before .before .before .before .before .before .before .before .pre (c .before .before .before .before .before .before .before .before .before .if1 .taken))
+
+second-link-requires : tie.Need-second-link-requires
+second-link-requires c κs = search needs
+
+step-row-requires : tie.Need-step-row-requires
+step-row-requires c κs =
+    let can = c .before .before .before .before .before .before .before .before .before .before .before .before .before .before .before .before .before .before .before .before .before .before .before .pre (c .before .before .before .before .before .before .before .before .before .before .before .before .before .before .before .before .before .before .before .if1 .taken) in
+    let placed = c .before .before .before .before .before .before .before .before .before .place-addition in
+    (addition-room _ _ _ _ _ _ _ _ _ _ _ _ _ _ _ _ _ _ (placed .ensures) (can .row), omega (arith, placed .kept, can .operation, can .queue .sizes .rowsFit))
 
 same-length : tie.Need-same-length
 same-length c = search needs
@@ -22,20 +39,51 @@ same-length-4 : tie.Need-same-length-4
 same-length-4 c = search needs
 
 returns : tie.Need-returns
-returns c = search needs
+unfolding processOf
+returns c =
+    λ _.
+    row-steps _ _ _ _ _ _ _ _ _ _ _ _ (rw (c .before .before .before .second-link .ensures) at (c .before .before .step-row .ensures))
+    ∙ ap (rowThen _ _ _ _) (c .before .before .before .before .before .before .before .before .before .before .before .before .place-addition .ensures) ∙ sym (addition-step _ _ _ _ _ _ (c .before .before .before .before .before .before .before .before .before .before .before .before .before .before .before .before .before .before .before .if2 .taken))
+
+place-read-requires : tie.Need-place-read-requires
+place-read-requires c κs =
+    let can = c .before .before .before .before .before .before .before .before .pre (c .before .before .before .before .if1 .taken) in
+    (can .row .row, omega (arith, can .operation, can .queue .sizes .rowsFit), can .ranks)
+
+step-row-requires-2 : tie.Need-step-row-requires-2
+step-row-requires-2 c κs =
+    let can = c .before .before .before .before .before .before .before .before .before .before .before .before .pre (c .before .before .before .before .before .before .before .before .if1 .taken) in
+    let placed = c .before .before .before .place-read in
+    (room-stays _ (can .row) (λ j n. ap (λ f. f j) (placed .ensures .rows) ∙ ranked-beside _ _ _ j n), omega (arith, placed .kept, can .operation, can .queue .sizes .rowsFit))
+
+same-length-5 : tie.Need-same-length-5
+same-length-5 c = search needs
 
 returns-2 : tie.Need-returns-2
+unfolding processOf
 returns-2 c =
-    λ e. absurd (false-true (sym ((c .if1) .left) ∙ e))
+    λ _.
+    row-steps _ _ _ _ _ _ _ _ _ _ _ _ (c .before .before .step-row2 .ensures)
+    ∙ ap (rowThen _ _ _ _) (reads _ _ _ _ _ _ _ _ (c .before .before .before .before .before .before .place-read .ensures)) ∙ sym (read-step _ _ _ _ _ _ (c .before .before .before .before .before .before .before .before .if2 .left))
+
+returns-3 : tie.Need-returns-3
+returns-3 c = λ e. absurd (false-true (sym (c .if1 .left) ∙ e))
 
 pub keep-step-spec : {M : Type 1} → statement M
 keep-step-spec =
     tie.close
     (tie.spec
-    take-step-requires
+    cast-i
+    place-addition-requires
+    second-link-requires
+    step-row-requires
     same-length
     same-length-2
     same-length-3
     same-length-4
     returns
-    returns-2)
+    place-read-requires
+    step-row-requires-2
+    same-length-5
+    returns-2
+    returns-3)

@@ -102,8 +102,8 @@ unfolding asFun
 loop-again c =
     let inv = (c .before .before .before .before .loop) .inv in
     let taken = (c .before .before .before .loop-test) .taken in
-    ⊎-elim (λ w. rw (w .1, w .2, w .3, w .4, w .5) (lists-it inv taken (w .0 .taken)))
-    (λ w. rw (w .1, w .2, w .3, w .4, w .5) (keeps-it inv taken (w .0 .left))) ((c .if1) .came)
+    ⊎-elim (λ w. rw (w .1, w .2, w .3, w .4, w .5) (lists-it inv taken (omega (arith, w .0 .taken))))
+    (λ w. rw (w .1, w .2, w .3, w .4, w .5) (keeps-it inv taken (omega arith) (omega (arith, w .0 .left)))) ((c .if1) .came)
 
 same-length : tie.Need-same-length Inv-loop μ-loop
 same-length c =

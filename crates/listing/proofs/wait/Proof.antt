@@ -1,5 +1,6 @@
 -- `wait` meets its contract: two stores inside their arrays.
-use Rattle.arrays.proofs.Laws.{fun-set}
+use native.Mathlib.Omega.{arith}
+use Rattle.listing.proofs.Laws.{stored-as}
 use borrow.Author.Needs.{needs}
 use Rattle.listing.proofs.wait.Statement.{statement}
 use Rattle.listing.proofs.wait.Tie as tie
@@ -32,8 +33,7 @@ same-length-2 : tie.Need-same-length-2
 same-length-2 c = search needs
 
 returns : tie.Need-returns
-returns c =
-    (fun-set _ _ _ ((c .pre) .0), fun-set _ _ _ ((c .pre) .1))
+returns c = (stored-as _ _ _ _ (c .pre .0) (omega arith), stored-as _ _ _ _ (c .pre .1) (omega arith))
 
 pub wait-spec : {M : Type 1} → statement M
 wait-spec =

@@ -1,11 +1,10 @@
--- `list_read`: one store, of the next rank.
-use native.Mathlib.Numerals.{add-one}
-use Rattle.arrays.proofs.Laws.{fun-set}
+-- `place_read`: one store, of the next rank.
+use Rattle.listing.proofs.Laws.{stored-as}
 use Rattle.listing.specs.Queue.{ranked}
 use native.Mathlib.Omega.{arith}
 use borrow.Author.Needs.{needs}
-use Rattle.keeping.proofs.list_read.Statement.{statement}
-use Rattle.keeping.proofs.list_read.Tie as tie
+use Rattle.placing.proofs.place_read.Statement.{statement}
+use Rattle.placing.proofs.place_read.Tie as tie
 
 add-rank : tie.Need-add-rank
 add-rank c = search needs
@@ -30,10 +29,10 @@ unfolding ranked
 returns c =
     record {
       waiting = search needs;
-      rank = add-one _;
-      rows = rw (← add-one ((c .before .args) .listed .rank)) (fun-set _ _ _ (omega arith));
+      rank = omega arith;
+      rows = stored-as _ _ _ _ (omega arith) (omega arith);
     }
 
-pub list-read-spec : {M : Type 1} → statement M
-list-read-spec =
+pub place-read-spec : {M : Type 1} → statement M
+place-read-spec =
     tie.close (tie.spec add-rank mul-rows add-rows mul-rows-2 slice-write-rows same-length returns)
