@@ -50,7 +50,7 @@ lay-decimal-lay-byte-requires : (t : ℕ) → lay-decimal-lts.Need-lay-byte-requ
 ) (lay-decimal-at t) lay-decimal.Post
 lay-decimal-lay-byte-requires t c κs =
     let start = c .before .before in
-    let one = ap length (decimal-digit (start .args .n) (c .before .if1 .taken)) in
+    let one = ap length (decimal-digit (start .args .n) (omega arith)) in
     record { long = start .pre .1 .long; enough = omega (arith, start .pre .1 .enough, one) }
 
 lay-decimal-returns : (t : ℕ) → lay-decimal-lts.Need-returns (
@@ -60,7 +60,7 @@ lay-decimal-returns : (t : ℕ) → lay-decimal-lts.Need-returns (
   lay-decimal.Post,
 ) (lay-decimal-at t) lay-decimal.Post
 lay-decimal-returns t c =
-    (lays-as (sym (decimal-digit _ (c .before .before .if1 .taken))) (c .lay-byte .ensures), omega arith)
+    (lays-as (sym (decimal-digit (c .before .before .before .args .n) (omega arith))) (c .lay-byte .ensures), omega arith)
 
 lay-decimal-lay-decimal-requires : (t : ℕ) → lay-decimal-lts.Need-lay-decimal-requires (
   lay-byte-reads.Asked,
@@ -70,8 +70,8 @@ lay-decimal-lay-decimal-requires : (t : ℕ) → lay-decimal-lts.Need-lay-decima
 ) (lay-decimal-at t) lay-decimal.Post
 lay-decimal-lay-decimal-requires t c κs =
     let start = c .before .before in
-    let more = decimal-longer (start .args .n) (omega arith) (c .before .if1 .left) in
-    (omega (arith, start .pre .0, c .before .if1 .left), record { long = start .pre .1 .long; enough = omega (arith, start .pre .1 .enough, more) })
+    let more = decimal-longer (start .args .n) (omega arith) (omega arith) in
+    (omega (arith, start .pre .0), record { long = start .pre .1 .long; enough = omega (arith, start .pre .1 .enough, more) })
 
 lay-decimal-cast-lay-byte-2 : (t : ℕ) → lay-decimal-lts.Need-cast-lay-byte-2 (
   lay-byte-reads.Asked,
@@ -97,7 +97,7 @@ lay-decimal-lay-byte-requires-2 : (t : ℕ) → lay-decimal-lts.Need-lay-byte-re
 ) (lay-decimal-at t) lay-decimal.Post
 lay-decimal-lay-byte-requires-2 t c κs =
     let start = c .before .before .before .before in
-    let more = decimal-longer (start .args .n) (omega arith) (c .before .before .before .if1 .left) in
+    let more = decimal-longer (start .args .n) (omega arith) (omega arith) in
     room-left 1 (start .pre .1) (c .before .lay-decimal .ensures .0) (omega (arith, more))
 
 lay-decimal-returns-2 : (t : ℕ) → lay-decimal-lts.Need-returns-2 (
@@ -108,7 +108,7 @@ lay-decimal-returns-2 : (t : ℕ) → lay-decimal-lts.Need-returns-2 (
 ) (lay-decimal-at t) lay-decimal.Post
 lay-decimal-returns-2 t c =
     let n = c .before .before .before .before .before .args .n in
-    let both = lays-as (sym (decimal-last n (omega arith) (c .before .before .before .before .if1 .left))) (lays-then (c .before .before .lay-decimal .ensures .0) (c .lay-byte2 .ensures)) in
+    let both = lays-as (sym (decimal-last n (omega arith) (omega arith))) (lays-then (c .before .before .lay-decimal .ensures .0) (c .lay-byte2 .ensures)) in
     (both, omega (arith, both .place, decimal-few n))
 
 pub +lay-decimal-spec : {M : Type 1} → statement M
