@@ -33,6 +33,11 @@ runs =
     (recording 69 (adds 1 7 ∷ times 4 (step 1) ∷ adds 0 5 ∷ times 5 (step 0) ∷ times 2 (step 1) ∷ reads 1 ∷ step 1 ∷ times 5 (step 0) ∷ []))
     (reportOf 64 12 (row 1 3 1 1 6 0 1 0 ∷ row 0 3 1 2 10 0 3 1 ∷ row 1 2 1 2 1 7 2 0 ∷ []))
     "operations 3 counter 12\n1 add 1 1 6 0 1 0\n0 add 1 2 10 0 3 1\n1 read 1 2 1 7 2 0\n"
+    -- D, but 0 starts first: 1's leaf write, which was before 1's read of the left child, says nothing of 0's
+    ∷ acceptance
+    (recording 57 (adds 0 5 ∷ adds 1 7 ∷ times 4 (step 1) ∷ times 2 (step 0) ∷ times 2 (step 1) ∷ reads 1 ∷ step 1 ∷ times 4 (step 0) ∷ []))
+    (reportOf 64 12 (row 0 3 1 1 6 0 3 0 ∷ row 1 3 1 2 6 0 1 0 ∷ row 1 2 1 2 1 7 2 0 ∷ []))
+    "operations 3 counter 12\n0 add 1 1 6 0 3 0\n1 add 1 2 6 0 1 0\n1 read 1 2 1 7 2 0\n"
     -- 1's failed SC, whose own reads had the 7, takes nothing in: 0 then reads 5
     ∷ acceptance
     (recording 69 (adds 0 5 ∷ times 5 (step 0) ∷ adds 1 7 ∷ times 3 (step 1) ∷ step 0 ∷ times 3 (step 1) ∷ reads 0 ∷ step 0

@@ -249,9 +249,9 @@ ofHistory =
     ∷ (tells 0 isLeafWrite each is 3 ∷ [])
     ∷ (tells 0 (isReadOf 4) each is 6 ∷ [])
     ∷ (tells 0 (isReadOf 5) each is 7 ∷ [])
-    ∷ (tells 0 (isReadOf 2) each is [])
+    ∷ (tells 0 (isReadOf 2) each ++ tells 0 (isReadOf 3) each ++ tells 0 (isReadOf 6) each is [])
     ∷ (tells 0 (isStoreAt 2) each is 8 ∷ 9 ∷ [])
-    ∷ (tells 0 (isStoreAt 4) each is [])
+    ∷ (tells 0 (isStoreAt 1) each ++ tells 0 (isStoreAt 3) each is [])
     ∷ (tells 0 isSecondLink each is 5 ∷ [])
     -- the latest first: 0's leaf read, its start as operation 1, 1's start as operation 0
     ∷ (entries (stateAfter (outcome (recording 14 (reads 1 ∷ adds 0 5 ∷ step 0 ∷ []))) .history)
