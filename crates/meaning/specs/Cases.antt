@@ -22,6 +22,12 @@ runs =
     ∷ times 3 (step 1) ∷ []))
     (reportOf 64 13 (row 1 3 1 1 10 0 1 1 ∷ row 0 3 1 2 6 0 2 0 ∷ row 0 3 1 2 6 0 3 0 ∷ []))
     "operations 3 counter 13\n1 add 1 1 10 0 1 1\n0 add 1 2 6 0 2 0\n0 add 1 2 6 0 3 0\n"
+    -- 0 stores and links again before 1's SC: 0's link does not serve 1, whose own is gone
+    ∷ acceptance
+    (recording 100 (adds 1 7 ∷ times 3 (step 1) ∷ adds 0 5 ∷ times 6 (step 0) ∷ adds 0 1 ∷ times 3 (step 0) ∷ times 7 (step 1)
+    ∷ times 7 (step 0) ∷ []))
+    (reportOf 64 13 (row 1 3 1 1 10 0 1 1 ∷ row 0 3 1 2 6 0 2 0 ∷ row 0 3 1 2 10 0 3 1 ∷ []))
+    "operations 3 counter 13\n1 add 1 1 10 0 1 1\n0 add 1 2 6 0 2 0\n0 add 1 2 10 0 3 1\n"
     -- 1 reads the left child before 0's second leaf write and again after it: the store takes in by its own, the latest read
     ∷ acceptance
     (recording 82 (adds 1 7 ∷ times 3 (step 1) ∷ adds 0 5 ∷ times 6 (step 0) ∷ step 1 ∷ adds 0 1 ∷ times 2 (step 0) ∷ times 6 (step 1)
@@ -54,11 +60,13 @@ runs =
     (recording 39 (adds 0 5 ∷ adds 1 7 ∷ times 2 (step 1) ∷ times 6 (step 0) ∷ []))
     (reportOf 44 12 (row 0 3 1 1 6 0 2 0 ∷ row 1 3 0 2 2 0 1 0 ∷ []))
     "operations 2 counter 12\n0 add 1 1 6 0 2 0\n1 add 0 2 2 0 1 0\n"
-    -- the sum of the children wraps
+    -- the largest counter; then the sum of the children wraps
     ∷ acceptance
-    (recording 45 (addsOf 0 (255 ∷ 255 ∷ 255 ∷ 255 ∷ []) ∷ times 2 (step 0) ∷ adds 1 2 ∷ times 6 (step 1) ∷ reads 1 ∷ step 1 ∷ []))
-    (reportOf 64 1 (row 0 3 0 1 2 0 1 0 ∷ row 1 3 1 2 6 0 2 0 ∷ row 1 2 1 2 1 1 3 0 ∷ []))
-    "operations 3 counter 1\n0 add 0 1 2 0 1 0\n1 add 1 2 6 0 2 0\n1 read 1 2 1 1 3 0\n"
+    (recording 63 (addsOf 0 (255 ∷ 255 ∷ 255 ∷ 255 ∷ []) ∷ times 6 (step 0) ∷ reads 1 ∷ step 1 ∷ adds 1 2 ∷ times 6 (step 1) ∷ reads 0
+    ∷ step 0 ∷ []))
+    (reportOf 84 1 (row 0 3 1 1 6 0 1 0 ∷ rowOf 1 2 1 1 1 (255 ∷ 255 ∷ 255 ∷ 255 ∷ []) 2 0 ∷ row 1 3 1 1 6 0 3 0 ∷ row 0 2 1 1 1 1 4 0
+    ∷ []))
+    "operations 4 counter 1\n0 add 1 1 6 0 1 0\n1 read 1 1 1 4294967295 2 0\n1 add 1 1 6 0 3 0\n0 read 1 1 1 1 4 0\n"
     -- a delta, a counter and an answer of four bytes each
     ∷ acceptance
     (recording 32 (addsOf 1 (1 ∷ 2 ∷ 3 ∷ 4 ∷ []) ∷ times 6 (step 1) ∷ reads 0 ∷ step 0 ∷ []))
