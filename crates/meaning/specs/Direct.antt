@@ -19,6 +19,7 @@ use Rattle.recording.specs.declared.Written.the-variants.{Laid, NoRoom}
 use Rattle.meaning.specs.Layout.{headRefusal}
 use Rattle.meaning.specs.Tree.{processes, leafOf, left, right, parent, ancestor, root}
 use Rattle.meaning.specs.Access.{Access, first, second, starts, readsRoot, readsLeaf, writesLeaf, links, readsLeft, readsRight, stores, isRootRead, isLeafWrite, isReadOf, isStoreAt, isSecondLink}
+use Rattle.meaning.specs.Steps.{Process, sawIt, sawLeft, sawRight, atStep}
 use Rattle.meaning.specs.Run.{Entry, Row, State, Outcome, refused, accepted, initial, busy, newRow, start, recordRefusal, outcome}
 use Rattle.meaning.specs.Alone.{alone}
 use Rattle.meaning.specs.Plain.{numberAfter, runDown, upTo, timesIn}
@@ -89,6 +90,10 @@ abbrev pub tells : ℕ → (Access → Bool) → List Access → List ℕ
 tells k ask [] = []
 tells k ask (a ∷ rest) = cond (ask a) (k ∷ []) [] ++ tells (suc k) ask rest
 
+abbrev pub processShown : Process → List ℕ
+processShown r =
+    r .step ∷ r .operation ∷ digit (r .adds) ∷ r .delta ∷ r .seen ∷ r .seenLeft ∷ r .seenRight ∷ []
+
 -- of each entry its process, its operation, and whether it is an SC that succeeded
 abbrev pub entries : List Entry → List ℕ
 entries [] = []
@@ -118,6 +123,10 @@ each =
     ∷ stores first 2
     ∷ stores second 2
     ∷ []
+
+-- a process's record with another number in each field
+abbrev pub some : Process
+some = record { step = 2; operation = 3; adds = true; delta = 4; seen = 5; seenLeft = 6; seenRight = 7 }
 
 -- the state before any record, but for the number of operations
 abbrev pub counted : ℕ → State
@@ -249,10 +258,15 @@ ofHistory =
     ∷ (tells 0 isLeafWrite each is 3 ∷ [])
     ∷ (tells 0 (isReadOf 4) each is 6 ∷ [])
     ∷ (tells 0 (isReadOf 5) each is 7 ∷ [])
-    ∷ (tells 0 (isReadOf 2) each is [])
+    ∷ (tells 0 (isReadOf 2) each ++ tells 0 (isReadOf 3) each ++ tells 0 (isReadOf 6) each is [])
     ∷ (tells 0 (isStoreAt 2) each is 8 ∷ 9 ∷ [])
-    ∷ (tells 0 (isStoreAt 4) each is [])
+    ∷ (tells 0 (isStoreAt 1) each ++ tells 0 (isStoreAt 3) each is [])
     ∷ (tells 0 isSecondLink each is 5 ∷ [])
+    -- only what was seen, or the step, is another
+    ∷ (processShown (sawIt 9 some) is 2 ∷ 3 ∷ 1 ∷ 4 ∷ 9 ∷ 6 ∷ 7 ∷ [])
+    ∷ (processShown (sawLeft 9 some) is 2 ∷ 3 ∷ 1 ∷ 4 ∷ 5 ∷ 9 ∷ 7 ∷ [])
+    ∷ (processShown (sawRight 9 some) is 2 ∷ 3 ∷ 1 ∷ 4 ∷ 5 ∷ 6 ∷ 9 ∷ [])
+    ∷ (processShown (atStep 9 some) is 9 ∷ 3 ∷ 1 ∷ 4 ∷ 5 ∷ 6 ∷ 7 ∷ [])
     -- the latest first: 0's leaf read, its start as operation 1, 1's start as operation 0
     ∷ (entries (stateAfter (outcome (recording 14 (reads 1 ∷ adds 0 5 ∷ step 0 ∷ []))) .history)
     is 0 ∷ 1 ∷ 0 ∷ 0 ∷ 1 ∷ 0 ∷ 1 ∷ 0 ∷ 0 ∷ [])
