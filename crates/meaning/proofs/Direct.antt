@@ -7,7 +7,7 @@ use Rattle.sets.specs.Processes.{nobody, with, without, countBelow, isIn}
 use Rattle.cell.specs.Cell as Cells
 use Rattle.cell.specs.Cell.{readOf, loadLinked, succeeds, storeConditional, stateOf}
 use Rattle.recording.specs.Numbers.{fourBytes, numberAt}
-use Rattle.recording.specs.Record.{bytesOf, inTable, whole, eventAt, cutAt, cutAnswer}
+use Rattle.recording.specs.Record.{bytesOf, inTable, whole, eventAt, cutAt, cutAnswer, readAnswer}
 use Rattle.recording.specs.Written.{writeAnswer, writeBuffer, writtenAnswer}
 use Rattle.cell.specs.Done.{Links, Stores}
 use Rattle.cell.specs.declared.Cell.{Cell}
@@ -34,7 +34,7 @@ use Rattle.meaning.specs.Starred.{join, times, step, reads, adds, record
 use Rattle.meaning.specs.Direct.{Pair, members, cellShown, answerShown, three, ofSets, ofCells, ofRecords, ofWriter, ofRun, ofHistory, ofList, pairs}
 
 pub direct : map (λ c. c .given) pairs ≡ map (λ c. c .said) pairs
-unfolding nobody with without isIn Cells.initial stateOf bytesOf cutAnswer writeAnswer writeBuffer writtenAnswer alone numberAfter runDown upTo timesIn countBelow readOf loadLinked succeeds storeConditional fourBytes numberAt inTable whole eventAt cutAt firstOf version follows height headRefusal follow recordsFrom recordsOf processes leafOf left right parent ancestor root attempt climb additionSteps readSteps isRootRead isLeafWrite isReadOf isStoreAt isSecondLink upd cellAt withCell withValue idle stepsOf accessOf plus onward passesBy sawIt sawLeft sawRight atStep effect within nextRecord blank initial busy started kindOf newRow start rowAfter takeStep processOf isStart recordRefusal takeEvent unless run outcome inLeaf beforeRead inStore isInNode keep leafWrites inRoot placed listed further positionOf rank one rowBytes rowsBytes reportBytes needed passes answerWith bufferWith reportAnswer reportBuffer checkWith checkAnswer text digitsOf decimal line rowLine rowLines printedOf printed join times step reads adds recording ofSets ofCells ofRecords ofWriter ofRun ofHistory ofList pairs
+unfolding nobody with without isIn Cells.initial stateOf bytesOf cutAnswer readAnswer writeAnswer writeBuffer writtenAnswer alone numberAfter runDown upTo timesIn countBelow readOf loadLinked succeeds storeConditional fourBytes numberAt inTable whole eventAt cutAt firstOf version follows height headRefusal follow recordsFrom recordsOf processes leafOf left right parent ancestor root attempt climb additionSteps readSteps isRootRead isLeafWrite isReadOf isStoreAt isSecondLink upd cellAt withCell withValue idle stepsOf accessOf plus onward passesBy sawIt sawLeft sawRight atStep effect within nextRecord blank initial busy started kindOf newRow start rowAfter takeStep processOf isStart recordRefusal takeEvent unless run outcome inLeaf beforeRead inStore isInNode keep leafWrites inRoot placed listed further positionOf rank one rowBytes rowsBytes reportBytes needed passes answerWith bufferWith reportAnswer reportBuffer checkWith checkAnswer text digitsOf decimal line rowLine rowLines printedOf printed join times step reads adds recording ofSets ofCells ofRecords ofWriter ofRun ofHistory ofList pairs
 direct = refl
 
 -- ---- the contracts: what they promise of one case each

@@ -9,7 +9,7 @@ use Rattle.cell.specs.Cell as Cells
 use Rattle.cell.specs.Cell.{readOf, loadLinked, succeeds, storeConditional, stateOf}
 use Rattle.cell.specs.declared.Cell.{Cell}
 use Rattle.recording.specs.Numbers.{fourBytes, numberAt}
-use Rattle.recording.specs.Record.{Answer, bytesOf, inTable, cutAt, cutAnswer}
+use Rattle.recording.specs.Record.{Answer, bytesOf, inTable, cutAt, cutAnswer, readAnswer}
 use Rattle.recording.specs.Written.{writeAnswer, writeBuffer, writtenAnswer}
 use Rattle.recording.specs.declared.Event.{Event}
 use Rattle.recording.specs.declared.Event.the-variants.{Step, Read, Add}
@@ -215,6 +215,12 @@ ofRecords =
     ∷ (answerShown (cutAnswer (Found (Read 7) 3)) is 0 ∷ 3 ∷ [])
     ∷ (answerShown (cutAnswer (Broken 5)) is 6 ∷ 5 ∷ [])
     ∷ (answerShown (cutAnswer End) is 0 ∷ 0 ∷ [])
+    ∷ (answerShown (readAnswer three 0) is 0 ∷ 3 ∷ [])
+    ∷ (answerShown (readAnswer three 3) is 0 ∷ 10 ∷ [])
+    ∷ (answerShown (readAnswer three 1) is 6 ∷ 1 ∷ [])
+    ∷ (answerShown (readAnswer three 12) is 6 ∷ 12 ∷ [])
+    ∷ (answerShown (readAnswer three 13) is 0 ∷ 0 ∷ [])
+    ∷ (answerShown (readAnswer three 14) is 0 ∷ 0 ∷ [])
     ∷ []
 
 -- "The writer lays one event at the front of a lent buffer, 3 or 7 bytes; bytes after them stay. With less room it answers refusal 11."
