@@ -415,7 +415,7 @@ static struct bytes b(uint32_t delta_0, uint32_t delta_1)
 static struct bytes report_of_b(uint32_t counter)
 {
     struct bytes report = report_head(2, counter);
-    row(&report, 0, ADD, 1, 1, 6, 0, 1, 0);
+    row(&report, 0, ADD, 1, 2, 6, 0, 1, 0);
     row(&report, 1, ADD, 1, 2, 10, 0, 2, 1);
     return report;
 }
@@ -438,7 +438,7 @@ static void lettered(void)
     step(&c, 0, 4);
     set_true_length(&c);
     struct bytes report = report_head(2, 5);
-    row(&report, 0, ADD, 1, 1, 6, 0, 2, 0);
+    row(&report, 0, ADD, 1, 2, 6, 0, 2, 0);
     row(&report, 1, READ, 1, 2, 1, 0, 1, 0);
     accepted("C", c, report);
 
@@ -453,7 +453,7 @@ static void lettered(void)
     step(&d, 0, 4);
     set_true_length(&d);
     report = report_head(3, 12);
-    row(&report, 1, ADD, 1, 1, 6, 0, 1, 0);
+    row(&report, 1, ADD, 1, 2, 6, 0, 1, 0);
     row(&report, 0, ADD, 1, 2, 6, 0, 3, 0);
     row(&report, 1, READ, 1, 2, 1, 7, 2, 0);
     accepted("D", d, report);
@@ -476,9 +476,46 @@ static void lettered(void)
     step(&f, 1, 6);
     set_true_length(&f);
     report = report_head(2, 12);
-    row(&report, 0, ADD, 0, 1, 2, 0, 1, 0);
+    row(&report, 0, ADD, 0, 2, 2, 0, 1, 0);
     row(&report, 1, ADD, 1, 2, 6, 0, 2, 0);
     accepted("F", f, report);
+}
+
+/* Process 0 adds 1 at height 6, the others start reads when it has taken `taken` of its 26 steps. */
+static void joined(const char *name, int taken, uint8_t own_contention, uint8_t others_contention)
+{
+    struct bytes rec = begin(6);
+    struct bytes report = report_head(64, 1);
+    start_add(&rec, 0, 1);
+    row(&report, 0, ADD, 1, own_contention, 26, 0, 1, 0);
+    step(&rec, 0, taken);
+    for (uint8_t process = 1; process < 64; process++) {
+        start_read(&rec, process);
+        row(&report, process, READ, 0, others_contention, 0, 0, 0, 0);
+    }
+    step(&rec, 0, 26 - taken);
+    set_true_length(&rec);
+    accepted(name, rec, report);
+}
+
+static void contention(void)
+{
+    joined("64 busy right after its start", 0, 64, 64);
+    joined("64 busy right before its last step", 25, 64, 64);
+    joined("63 busy right after its last step", 26, 1, 63);
+
+    struct bytes rec = begin(1);
+    start_read(&rec, 0);
+    start_read(&rec, 1);
+    step(&rec, 0, 1);
+    step(&rec, 1, 1);
+    start_read(&rec, 0);
+    set_true_length(&rec);
+    struct bytes report = report_head(3, 0);
+    row(&report, 0, READ, 1, 2, 1, 0, 1, 0);
+    row(&report, 1, READ, 1, 2, 1, 0, 2, 0);
+    row(&report, 0, READ, 0, 1, 0, 0, 0, 0);
+    accepted("two at once, then one alone", rec, report);
 }
 
 /* The header promises that several threads may call at once. */
@@ -530,6 +567,7 @@ int main(void)
     records();
     operations();
     lettered();
+    contention();
     threads();
     printf("host: %u recordings, %u calls as expected\n", recordings, calls);
     return 0;

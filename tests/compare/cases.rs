@@ -88,6 +88,12 @@ pub fn all() -> Vec<Case> {
     operations(&mut cases);
     lettered(&mut cases);
     errors_that_look_right(&mut cases);
+    joined(&mut cases);
+    before_the_start(&mut cases);
+    rising_and_falling(&mut cases);
+    all_at_once(&mut cases);
+    contention_anew(&mut cases);
+    joined_at_a_second_attempt(&mut cases);
     cases.0
 }
 
@@ -296,7 +302,7 @@ fn busy_and_idle(cases: &mut Cases) {
         "two starts by different processes",
         recording(1, &[start_read(0), start_read(1)].concat()),
         0,
-        &[[0, READ_KIND, 0, 1, 0, 0, 0, 0], [1, READ_KIND, 0, 2, 0, 0, 0, 0]],
+        &[[0, READ_KIND, 0, 2, 0, 0, 0, 0], [1, READ_KIND, 0, 2, 0, 0, 0, 0]],
     );
     cases.refused("a step as first record", recording(1, &step(0)), 9, 6);
     cases.refused("a step of the other process", recording(1, &[start_read(0), step(1)].concat()), 9, 9);
@@ -343,28 +349,28 @@ fn lettered(cases: &mut Cases) {
 
     for (name, d0, d1, counter) in [("B", 5, 7, 12), ("B with both deltas 0", 0, 0, 0), ("B with a sum of 0", 5, u32::MAX - 4, 0)] {
         let records = [start_add(0, d0), start_add(1, d1), steps(0, 2), steps(1, 2), step(0), step(1), steps(0, 3), steps(1, 7)].concat();
-        let rows = [[0, ADD_KIND, 1, 1, 6, 0, 1, 0], [1, ADD_KIND, 1, 2, 10, 0, 2, 1]];
+        let rows = [[0, ADD_KIND, 1, 2, 6, 0, 1, 0], [1, ADD_KIND, 1, 2, 10, 0, 2, 1]];
         cases.accepted(name, recording(1, &records), counter, &rows);
         let more = [&records[..], &step(1)].concat();
         cases.refused(format!("{name}, one step more"), recording(1, &more), 9, records.len() + HEADER);
     }
 
     let c = [start_add(0, 5), steps(0, 2), start_read(1), step(1), steps(0, 4)].concat();
-    cases.accepted("C", recording(1, &c), 5, &[[0, ADD_KIND, 1, 1, 6, 0, 2, 0], [1, READ_KIND, 1, 2, 1, 0, 1, 0]]);
+    cases.accepted("C", recording(1, &c), 5, &[[0, ADD_KIND, 1, 2, 6, 0, 2, 0], [1, READ_KIND, 1, 2, 1, 0, 1, 0]]);
 
     let d = [start_add(1, 7), steps(1, 4), start_add(0, 5), steps(0, 2), steps(1, 2), start_read(1), step(1), steps(0, 4)].concat();
     cases.accepted(
         "D",
         recording(1, &d),
         12,
-        &[[1, ADD_KIND, 1, 1, 6, 0, 1, 0], [0, ADD_KIND, 1, 2, 6, 0, 3, 0], [1, READ_KIND, 1, 2, 1, 7, 2, 0]],
+        &[[1, ADD_KIND, 1, 2, 6, 0, 1, 0], [0, ADD_KIND, 1, 2, 6, 0, 3, 0], [1, READ_KIND, 1, 2, 1, 7, 2, 0]],
     );
 
     let e = [start_add(0, 4_294_967_295), steps(0, 6), start_add(0, 2), steps(0, 6)].concat();
     cases.accepted("E", recording(1, &e), 1, &[[0, ADD_KIND, 1, 1, 6, 0, 1, 0], [0, ADD_KIND, 1, 1, 6, 0, 2, 0]]);
 
     let f = [start_add(0, 5), steps(0, 2), start_add(1, 7), steps(1, 6)].concat();
-    cases.accepted("F", recording(1, &f), 12, &[[0, ADD_KIND, 0, 1, 2, 0, 1, 0], [1, ADD_KIND, 1, 2, 6, 0, 2, 0]]);
+    cases.accepted("F", recording(1, &f), 12, &[[0, ADD_KIND, 0, 2, 2, 0, 1, 0], [1, ADD_KIND, 1, 2, 6, 0, 2, 0]]);
 }
 
 /// Neighbours of the lettered cases, one for each way to go wrong that the document names, and some more.
@@ -374,27 +380,27 @@ fn errors_that_look_right(cases: &mut Cases) {
         "F with the processes changed over",
         recording(1, &f_mirrored),
         12,
-        &[[1, ADD_KIND, 0, 1, 2, 0, 1, 0], [0, ADD_KIND, 1, 2, 6, 0, 2, 0]],
+        &[[1, ADD_KIND, 0, 2, 2, 0, 1, 0], [0, ADD_KIND, 1, 2, 6, 0, 2, 0]],
     );
     let started_first_written_last = [start_add(0, 5), start_add(1, 7), steps(1, 2), steps(0, 2), steps(1, 4)].concat();
     cases.accepted(
         "together in one SC, written in the other order than started",
         recording(1, &started_first_written_last),
         12,
-        &[[0, ADD_KIND, 0, 1, 2, 0, 2, 0], [1, ADD_KIND, 1, 2, 6, 0, 1, 0]],
+        &[[0, ADD_KIND, 0, 2, 2, 0, 2, 0], [1, ADD_KIND, 1, 2, 6, 0, 1, 0]],
     );
     let f_before_the_write = [start_add(0, 5), step(0), start_add(1, 7), steps(1, 6)].concat();
     cases.accepted(
         "F stopped one step earlier",
         recording(1, &f_before_the_write),
         7,
-        &[[0, ADD_KIND, 0, 1, 1, 0, 0, 0], [1, ADD_KIND, 1, 2, 6, 0, 1, 0]],
+        &[[0, ADD_KIND, 0, 2, 1, 0, 0, 0], [1, ADD_KIND, 1, 2, 6, 0, 1, 0]],
     );
 
     // 1 links, then 0 stores, then 1 links again and 0's next addition stores: both of 1's attempts fail, and 1 is finished all the same.
     let fails_twice =
         [start_add(1, 1), steps(1, 3), start_add(0, 2), steps(0, 6), steps(1, 4), start_add(0, 4), steps(0, 6), steps(1, 3)].concat();
-    let rows = [[1, ADD_KIND, 1, 1, 10, 0, 1, 1], [0, ADD_KIND, 1, 2, 6, 0, 2, 0], [0, ADD_KIND, 1, 2, 6, 0, 3, 0]];
+    let rows = [[1, ADD_KIND, 1, 2, 10, 0, 1, 1], [0, ADD_KIND, 1, 2, 6, 0, 2, 0], [0, ADD_KIND, 1, 2, 6, 0, 3, 0]];
     cases.accepted("both attempts fail", recording(1, &fails_twice), 7, &rows);
     cases.refused("both attempts fail, one step more", recording(1, &[&fails_twice[..], &step(1)].concat()), 9, fails_twice.len() + HEADER);
 
@@ -412,7 +418,7 @@ fn errors_that_look_right(cases: &mut Cases) {
         steps(1, 4),
     ]
     .concat();
-    let rows = [[0, ADD_KIND, 1, 1, 6, 0, 1, 0], [1, ADD_KIND, 1, 2, 10, 0, 2, 1], [0, ADD_KIND, 1, 2, 6, 0, 3, 0]];
+    let rows = [[0, ADD_KIND, 1, 2, 6, 0, 1, 0], [1, ADD_KIND, 1, 2, 10, 0, 2, 1], [0, ADD_KIND, 1, 2, 6, 0, 3, 0]];
     cases.accepted("a failed SC changes nothing", recording(1, &failed_between), 13, &rows);
 
     let begun = [start_add(0, 5), start_add(1, 7), steps(0, 2), steps(1, 3), steps(0, 4), steps(1, 3)].concat();
@@ -420,13 +426,13 @@ fn errors_that_look_right(cases: &mut Cases) {
         "a second attempt due, its LL not taken",
         recording(1, &begun),
         12,
-        &[[0, ADD_KIND, 1, 1, 6, 0, 1, 0], [1, ADD_KIND, 0, 2, 6, 0, 2, 0]],
+        &[[0, ADD_KIND, 1, 2, 6, 0, 1, 0], [1, ADD_KIND, 0, 2, 6, 0, 2, 0]],
     );
     cases.accepted(
         "a second attempt begun",
         recording(1, &[&begun[..], &step(1)].concat()),
         12,
-        &[[0, ADD_KIND, 1, 1, 6, 0, 1, 0], [1, ADD_KIND, 0, 2, 7, 0, 2, 1]],
+        &[[0, ADD_KIND, 1, 2, 6, 0, 1, 0], [1, ADD_KIND, 0, 2, 7, 0, 2, 1]],
     );
 
     // At height 2, process 0 stops after its SC at node 2. Its sibling's addition carries it to node 1.
@@ -435,7 +441,7 @@ fn errors_that_look_right(cases: &mut Cases) {
         "stopped between two levels",
         recording(2, &stopped_half_way),
         12,
-        &[[0, ADD_KIND, 0, 1, 6, 0, 2, 0], [3, READ_KIND, 1, 2, 1, 0, 1, 0], [1, ADD_KIND, 1, 2, 10, 0, 3, 0]],
+        &[[0, ADD_KIND, 0, 2, 6, 0, 2, 0], [3, READ_KIND, 1, 2, 1, 0, 1, 0], [1, ADD_KIND, 1, 2, 10, 0, 3, 0]],
     );
     // Process 3's store at node 1 carries what stood in node 2 when it read there: 0's addition, and not 1's, which is only in its leaf.
     let only_in_the_leaf = [start_add(0, 5), steps(0, 6), start_add(1, 7), steps(1, 2), start_add(3, 1), steps(3, 10)].concat();
@@ -443,6 +449,159 @@ fn errors_that_look_right(cases: &mut Cases) {
         "in its leaf but in no inner node",
         recording(2, &only_in_the_leaf),
         6,
-        &[[0, ADD_KIND, 0, 1, 6, 0, 1, 0], [1, ADD_KIND, 0, 2, 2, 0, 0, 0], [3, ADD_KIND, 1, 3, 10, 0, 2, 0]],
+        &[[0, ADD_KIND, 0, 3, 6, 0, 1, 0], [1, ADD_KIND, 0, 3, 2, 0, 0, 0], [3, ADD_KIND, 1, 3, 10, 0, 2, 0]],
     );
+}
+
+/// The row of a read that answers 0: finished, with this rank, or unfinished where the rank is 0.
+fn read_of_0(process: u32, contention: u32, rank: u32) -> Row {
+    let finished = (rank > 0) as u32;
+    [process, READ_KIND, finished, contention, finished, 0, rank, 0]
+}
+
+/// An addition of process 0 that process 1 joins, at every place: up to, but without, its last step that counts.
+fn joined(cases: &mut Cases) {
+    for taken in 0..=6 {
+        let before = [start_add(0, 5), steps(0, taken), start_read(1)].concat();
+        let rest = steps(0, 6 - taken);
+        let contention = if taken < 6 { 2 } else { 1 };
+        cases.accepted(
+            format!("joined after {taken} of its 6 steps"),
+            recording(1, &[&before[..], &rest].concat()),
+            5,
+            &[[0, ADD_KIND, 1, contention, 6, 0, 1, 0], read_of_0(1, contention, 0)],
+        );
+        if taken == 6 {
+            continue;
+        }
+        cases.accepted(
+            format!("joined after {taken} of its 6 steps by one that ends at once"),
+            recording(1, &[&before[..], &step(1), &rest].concat()),
+            5,
+            &[[0, ADD_KIND, 1, 2, 6, 0, 2, 0], read_of_0(1, 2, 1)],
+        );
+        let stopped = [0, ADD_KIND, 0, 2, taken as u32, 0, 0, 0];
+        cases.accepted(
+            format!("stopped after {taken} steps, then joined by the last record"),
+            recording(1, &before),
+            0,
+            &[stopped, read_of_0(1, 2, 0)],
+        );
+        cases.accepted(
+            format!("stopped after {taken} steps, then joined by one that ends"),
+            recording(1, &[&before[..], &step(1)].concat()),
+            0,
+            &[stopped, read_of_0(1, 2, 1)],
+        );
+    }
+}
+
+/// The first record that counts is the start record.
+fn before_the_start(cases: &mut Cases) {
+    let still_there = [start_read(1), start_read(0), step(1), step(0)].concat();
+    cases.accepted("the other ends right after its start", recording(1, &still_there), 0, &[read_of_0(1, 2, 1), read_of_0(0, 2, 2)]);
+    let gone = [start_read(1), step(1), start_read(0), step(0)].concat();
+    cases.accepted("the other ends right before its start", recording(1, &gone), 0, &[read_of_0(1, 1, 1), read_of_0(0, 1, 2)]);
+    let more_before = [start_read(1), start_read(2), start_read(3), step(1), step(2), start_read(0), step(0)].concat();
+    cases.accepted(
+        "more were busy before its start than after it",
+        recording(2, &more_before),
+        0,
+        &[read_of_0(1, 3, 1), read_of_0(2, 3, 2), read_of_0(3, 3, 0), read_of_0(0, 2, 3)],
+    );
+}
+
+/// An addition of process 0 at height 2, finished and one step short of it, through which the count of the busy ones changes.
+fn rising_and_falling(cases: &mut Cases) {
+    let start = |processes: &[u8]| processes.iter().flat_map(|&process| start_read(process)).collect::<Vec<u8>>();
+    let end = |processes: &[u8]| processes.iter().flat_map(|&process| step(process)).collect::<Vec<u8>>();
+    let higher = [start(&[1]), end(&[1]), start(&[1, 2]), end(&[1, 2]), start(&[1, 2, 3]), end(&[3, 2, 1])].concat();
+    let higher_rows = [(1, 2, 1), (1, 3, 2), (2, 3, 3), (1, 4, 6), (2, 4, 5), (3, 4, 4)];
+    let lower = [start(&[1, 2, 3]), end(&[1, 2, 3]), start(&[1, 2]), end(&[1, 2]), start(&[1]), end(&[1])].concat();
+    let lower_rows = [(1, 4, 1), (2, 4, 2), (3, 4, 3), (1, 3, 4), (2, 3, 5), (1, 2, 6)];
+    // Three join, but never two of them at once.
+    let in_turn = [start(&[1]), end(&[1]), start(&[2]), end(&[2]), start(&[3]), end(&[3])].concat();
+    let in_turn_rows = [(1, 2, 1), (2, 2, 2), (3, 2, 3)];
+    for (name, others, contention, other_rows) in [
+        ("the count rises higher each time", higher, 4, &higher_rows[..]),
+        ("the count rises less each time", lower, 4, &lower_rows),
+        ("three join one after another", in_turn, 2, &in_turn_rows),
+    ] {
+        let records = [&start_add(0, 9), &others[..], &steps(0, 10)].concat();
+        let reads = other_rows.iter().map(|&(process, contention, rank)| read_of_0(process, contention, rank));
+        let mut rows: Vec<Row> = [[0, ADD_KIND, 1, contention, 10, 0, 1 + other_rows.len() as u32, 0]].into_iter().chain(reads).collect();
+        cases.accepted(name, recording(2, &records), 9, &rows);
+        rows[0] = [0, ADD_KIND, 0, contention, 9, 0, 0, 0];
+        cases.accepted(format!("{name}, one step less"), recording(2, &records[..records.len() - 3]), 0, &rows);
+    }
+}
+
+/// All processes of the tree busy at once: 2 at height 1, 64 at height 6.
+fn all_at_once(cases: &mut Cases) {
+    for height in 1..=6 {
+        let n = 1u8 << height;
+        let count = n as u32;
+        let starts = |from: u8| (from..n).flat_map(start_read).collect::<Vec<u8>>();
+        let unfinished = |from: u32, contention: u32| (from..count).map(move |process| read_of_0(process, contention, 0));
+        cases.accepted(format!("{n} busy at the end"), recording(height, &starts(0)), 0, &unfinished(0, count).collect::<Vec<Row>>());
+        let ended = [starts(0), (0..n).flat_map(step).collect()].concat();
+        let rows: Vec<Row> = (0..count).map(|process| read_of_0(process, count, process + 1)).collect();
+        cases.accepted(format!("{n} busy, and all end"), recording(height, &ended), 0, &rows);
+        let never_all = [start_read(0), (1..n - 1).flat_map(start_read).collect(), step(0), start_read(n - 1)].concat();
+        let rows: Vec<Row> = [read_of_0(0, count - 1, 1)].into_iter().chain(unfinished(1, count - 1)).collect();
+        cases.accepted(format!("the first of {n} ends before the last starts"), recording(height, &never_all), 0, &rows);
+
+        let needed = 2 + 4 * height as usize;
+        let add = |contention: u32| [0, ADD_KIND, 1, contention, needed as u32, 0, 1, 0];
+        let in_time = [start_add(0, 1), steps(0, needed - 1), starts(1), step(0)].concat();
+        let rows: Vec<Row> = [add(count)].into_iter().chain(unfinished(1, count)).collect();
+        cases.accepted(format!("{n} busy right before its last step"), recording(height, &in_time), 1, &rows);
+        let too_late = [start_add(0, 1), steps(0, needed), starts(1)].concat();
+        let rows: Vec<Row> = [add(1)].into_iter().chain(unfinished(1, count - 1)).collect();
+        cases.accepted(format!("the others of {n} busy right after its last step"), recording(height, &too_late), 1, &rows);
+    }
+}
+
+/// A process's next operation keeps nothing of the one before, nor of what was while it was idle.
+fn contention_anew(cases: &mut Cases) {
+    let alone_again = [start_read(0), start_read(1), step(0), step(1), start_read(0), step(0), start_read(1)].concat();
+    cases.accepted(
+        "two at once, then each alone",
+        recording(1, &alone_again),
+        0,
+        &[read_of_0(0, 2, 1), read_of_0(1, 2, 2), read_of_0(0, 1, 3), read_of_0(1, 1, 0)],
+    );
+    let many_between =
+        [start_read(0), step(0), start_read(1), start_read(2), start_read(3), step(1), step(2), step(3), start_read(0), step(0)].concat();
+    cases.accepted(
+        "three busy while it is idle",
+        recording(2, &many_between),
+        0,
+        &[read_of_0(0, 1, 1), read_of_0(1, 3, 2), read_of_0(2, 3, 3), read_of_0(3, 3, 4), read_of_0(0, 1, 5)],
+    );
+    let goes_on = [start_add(3, 1), start_read(0), start_read(1), step(0), step(1), start_read(0), step(0), start_read(1)].concat();
+    cases.accepted(
+        "its second operation sees fewer than one that goes on",
+        recording(2, &goes_on),
+        0,
+        &[[3, ADD_KIND, 0, 3, 0, 0, 0, 0], read_of_0(0, 3, 1), read_of_0(1, 3, 2), read_of_0(0, 2, 3), read_of_0(1, 2, 0)],
+    );
+}
+
+/// An SC that fails is not the last step: 1's first at node 2 does, 0 ends, and only then 2 and 3 join.
+fn joined_at_a_second_attempt(cases: &mut Cases) {
+    let both_link = [start_add(0, 5), start_add(1, 7), steps(0, 2), steps(1, 2), step(0), step(1)].concat();
+    let fails = [both_link, steps(0, 3), steps(1, 3), steps(0, 4)].concat();
+    let in_turn = [start_read(2), step(2), start_read(3)].concat();
+    let at_once = [start_read(2), start_read(3), step(2)].concat();
+    for (name, others, contention) in [("one after another", in_turn, 2), ("at once", at_once, 3)] {
+        let rows = [
+            [0, ADD_KIND, 1, 2, 10, 0, 1, 0],
+            [1, ADD_KIND, 1, contention, 14, 0, 2, 1],
+            [2, READ_KIND, 1, contention, 1, 12, 3, 0],
+            [3, READ_KIND, 0, contention, 0, 0, 0, 0],
+        ];
+        let records = [&fails[..], &others, &steps(1, 8)].concat();
+        cases.accepted(format!("two join before a second attempt, {name}"), recording(2, &records), 12, &rows);
+    }
 }

@@ -24,16 +24,19 @@ enum Schedule {
     Ambush,
     /// Anyone but a changing set of stalled machines; some never wake up.
     Stalls,
+    /// While the tide rises most turns are starts; while it falls nobody starts, and one after another comes to its end.
+    Tides,
     /// One after another, each to the end of its operation.
     Alone,
 }
 
-const SCHEDULES: [(Schedule, &str); 6] = [
+const SCHEDULES: [(Schedule, &str); 7] = [
     (Schedule::Storm, "good, storm"),
     (Schedule::Lockstep, "good, lockstep"),
     (Schedule::Bursts, "good, bursts"),
     (Schedule::Ambush, "good, ambush"),
     (Schedule::Stalls, "good, stalls"),
+    (Schedule::Tides, "good, tides"),
     (Schedule::Alone, "good, alone"),
 ];
 
@@ -96,6 +99,53 @@ impl Recorder {
     }
 }
 
+/// Whose turn it is.
+#[derive(Default)]
+struct Turns {
+    process: usize,
+    turn: usize,
+    burst: usize,
+    stalled: u64,
+    rising: bool,
+}
+
+impl Turns {
+    /// None where the process lets its turn pass.
+    fn next(&mut self, plan: &Plan, model: &Model, random: &mut Random) -> Option<usize> {
+        self.process = match plan.schedule {
+            Schedule::Lockstep => {
+                self.turn += 1;
+                plan.active[self.turn % plan.active.len()]
+            }
+            Schedule::Bursts if self.burst > 0 => self.process,
+            Schedule::Tides if !self.rising && model.is_busy(self.process) => self.process,
+            Schedule::Alone if model.is_busy(self.process) => self.process,
+            _ => plan.active[random.below(plan.active.len())],
+        };
+        self.burst = if self.burst > 0 { self.burst - 1 } else { random.below(14) };
+        let passes = match plan.schedule {
+            Schedule::Ambush => model.is_about_to_store(self.process) && random.chance(90),
+            Schedule::Stalls => {
+                if random.chance(2) {
+                    self.stalled = random.next() & random.next() | self.stalled & 0x0101_0101_0101_0101;
+                }
+                self.stalled >> self.process & 1 == 1
+            }
+            Schedule::Tides => {
+                self.rising = model.busy == 0 || self.rising != random.chance(2);
+                let busy = model.is_busy(self.process);
+                if self.rising {
+                    busy && random.chance(70)
+                } else {
+                    !busy
+                }
+            }
+            _ => false,
+        };
+        (!passes).then_some(self.process)
+    }
+}
+
 struct Plan {
     height: usize,
     schedule: Schedule,
@@ -148,35 +198,11 @@ impl Plan {
 
     fn carry_out(&self, random: &mut Random) -> Recorder {
         let mut recorder = Recorder::new(self.height);
-        let mut turn = 0;
-        let mut burst = 0;
-        let mut stalled: u64 = 0;
+        let mut turns = Turns::default();
         let mut idle_turns = 0;
-        let mut process = 0;
         while !self.active.is_empty() && idle_turns < 4 * self.active.len() + 100 {
             idle_turns += 1;
-            process = match self.schedule {
-                Schedule::Lockstep => {
-                    turn += 1;
-                    self.active[turn % self.active.len()]
-                }
-                Schedule::Bursts if burst > 0 => process,
-                Schedule::Alone if recorder.model.is_busy(process) => process,
-                _ => self.active[random.below(self.active.len())],
-            };
-            burst = if burst > 0 { burst - 1 } else { random.below(14) };
-            match self.schedule {
-                Schedule::Ambush if recorder.model.is_about_to_store(process) && random.chance(90) => continue,
-                Schedule::Stalls => {
-                    if random.chance(2) {
-                        stalled = random.next() & random.next() | stalled & 0x0101_0101_0101_0101;
-                    }
-                    if stalled >> process & 1 == 1 {
-                        continue;
-                    }
-                }
-                _ => {}
-            }
+            let Some(process) = turns.next(self, &recorder.model, random) else { continue };
             let room = self.bytes - recorder.rec.len().min(self.bytes);
             if recorder.model.is_busy(process) {
                 if room < 3 {

@@ -16,7 +16,7 @@ mod recording;
 
 use cases::Case;
 use harness::{Answers, Disagreement, Entries, Feeding, Printing};
-use model::{Model, Reached};
+use model::{Model, Reached, CONTENTION};
 use random::Random;
 use std::collections::{BTreeMap, BTreeSet};
 use std::path::{Path, PathBuf};
@@ -61,20 +61,33 @@ struct Tally {
     accepted: [u64; 7],
     refused: [u64; 12],
     reached: Reached,
+    operations: u64,
     full_length: u64,
     full_operations: u64,
     printed: u64,
     kinds: BTreeMap<&'static str, u64>,
 }
 
+/// The contentions taken record by record, as the document words them, beside those that both reports have.
+fn hold_contention(rec: &[u8], model: &Model) -> Result<(), Disagreement> {
+    let mut report = vec![0; 9 + 20 * model.operations];
+    second::report(rec, &mut report);
+    for (row, (bytes, &contention)) in report[9..].chunks(20).zip(&model.contention).enumerate() {
+        if bytes[3] as usize != contention {
+            return Err(format!("row {row}: contention {} in both reports, {contention} record by record\n", bytes[3]));
+        }
+    }
+    Ok(())
+}
+
 impl Tally {
-    fn count(&mut self, rec: &[u8], answers: &Answers) {
+    fn count(&mut self, rec: &[u8], answers: &Answers) -> Result<(), Disagreement> {
         for answer in answers.reports.iter().filter(|answer| answer.number == 11) {
             self.refused[answer.number as usize] += 1;
         }
         if answers.check.number != 0 {
             self.refused[answers.check.number as usize] += 1;
-            return;
+            return Ok(());
         }
         let model = Model::replayed(rec);
         self.accepted[rec[5] as usize] += 1;
@@ -89,6 +102,11 @@ impl Tally {
         self.reached.additions_taken_in_together += model.reached.additions_taken_in_together;
         self.reached.finished_reads += model.reached.finished_reads;
         self.reached.unfinished += model.reached.unfinished;
+        for (sum, more) in self.reached.contention.iter_mut().zip(model.reached.contention) {
+            *sum += more;
+        }
+        self.operations += model.operations as u64;
+        hold_contention(rec, &model)
     }
 
     /// Prints every count; the names of those that are 0.
@@ -106,7 +124,9 @@ impl Tally {
         counts.push(("additions taken in by another machine's store".into(), self.reached.additions_taken_in_by_another));
         counts.push(("additions taken in together with others".into(), self.reached.additions_taken_in_together));
         counts.push(("finished reads".into(), self.reached.finished_reads));
+        counts.push(("operations".into(), self.operations));
         counts.push(("operations unfinished at the end".into(), self.reached.unfinished));
+        counts.extend(CONTENTION.iter().zip(self.reached.contention).map(|(name, count)| (name.to_string(), count)));
         counts.push(("accepted recordings of 65,536 bytes".into(), self.full_length));
         counts.push(("accepted recordings of 1,024 operations".into(), self.full_operations));
         counts.push(("inputs printed".into(), self.printed));
@@ -114,8 +134,18 @@ impl Tally {
         for (name, count) in &counts {
             println!("  {count:>8}  {name}");
         }
+        let [finished, unfinished, ..] = self.reached.contention;
+        println!(
+            "contention above the count at the start: {} of 100 finished operations, {} of 100 unfinished ones",
+            of_100(finished, self.operations - self.reached.unfinished),
+            of_100(unfinished, self.reached.unfinished)
+        );
         counts.into_iter().filter(|count| count.1 == 0).map(|count| count.0).collect()
     }
+}
+
+fn of_100(part: u64, whole: u64) -> u64 {
+    (100 * part).checked_div(whole).unwrap_or(0)
 }
 
 /// The inputs that disagree.
@@ -213,9 +243,8 @@ fn call_all(cases: &[Case], options: &Options, to_print: mpsc::Sender<Printed>, 
         let generate::Input { kind, rec } = generate::input(&mut random);
         let name = format!("generated {index} of seed {}: {kind}", options.seed);
         *tally.kinds.entry(kind).or_default() += 1;
-        match entries.compare(&rec) {
-            Ok(answers) => tally.count(&rec, &answers),
-            Err(disagreement) => failing.lock().unwrap().add(&name, kind, &rec, &disagreement),
+        if let Err(disagreement) = entries.compare(&rec).and_then(|answers| tally.count(&rec, &answers)) {
+            failing.lock().unwrap().add(&name, kind, &rec, &disagreement);
         }
         if index % PRINTED_ONE_IN == 0 {
             tally.printed += 1;

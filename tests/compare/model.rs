@@ -1,5 +1,6 @@
 //! The generator's own picture of the machine: who is busy, and which operations each node has taken in, as plain sets. It holds no
-//! values, for these decide neither. It steers the generator and counts what the generator reached; no answer is compared with it.
+//! values, for these decide neither. It steers the generator and counts what the generator reached; of the answers only the contention is held
+//! to it, taken record by record.
 
 use crate::recording::{ADD, READ, STEP};
 
@@ -20,6 +21,26 @@ struct Process {
     right: Set,
 }
 
+/// An operation's own records, each by how many records came before it.
+struct Span {
+    process: usize,
+    started: usize,
+    latest: usize,
+    finished: bool,
+}
+
+/// Operations by where the count of busy processes is greatest.
+pub const CONTENTION: [&str; 8] = [
+    "finished operations with a contention above the count at the start",
+    "unfinished operations with a contention above the count at the start",
+    "finished operations with a contention reached only right before the last step",
+    "finished operations with a greater count only after the last step",
+    "unfinished operations with a contention reached only after the latest step",
+    "operations with a contention below that of the process's operation before",
+    "operations with a contention of all processes",
+    "operations with a contention of 64",
+];
+
 /// What the generator is there to reach.
 #[derive(Default)]
 pub struct Reached {
@@ -30,16 +51,22 @@ pub struct Reached {
     pub additions_taken_in_together: u64,
     pub finished_reads: u64,
     pub unfinished: u64,
+    pub contention: [u64; CONTENTION.len()],
 }
 
 pub struct Model {
     pub n: usize,
     pub operations: usize,
+    pub busy: usize,
     height: usize,
     linked: Vec<u64>,
     taken_in: Vec<Set>,
     processes: Vec<Process>,
-    started_by: Vec<usize>,
+    spans: Vec<Span>,
+    /// How many processes are busy right after each record.
+    busy_after: Vec<usize>,
+    /// Of each operation at the end: the most that were busy right after any record from its start up to, but without, its last step.
+    pub contention: Vec<usize>,
     pub reached: Reached,
 }
 
@@ -50,11 +77,14 @@ impl Model {
         Model {
             n,
             operations: 0,
+            busy: 0,
             height,
             linked: vec![0; n],
             taken_in: vec![EMPTY; 2 * n],
             processes: vec![idle; n],
-            started_by: Vec::new(),
+            spans: Vec::new(),
+            busy_after: Vec::new(),
+            contention: Vec::new(),
             reached: Reached::default(),
         }
     }
@@ -71,7 +101,8 @@ impl Model {
             }
             place += 1 + rec[place] as usize;
         }
-        model.reached.unfinished = (0..model.n).filter(|&process| model.is_busy(process)).count() as u64;
+        model.reached.unfinished = model.busy as u64;
+        model.count_contention();
         model
     }
 
@@ -91,8 +122,11 @@ impl Model {
         own.operation = Some(self.operations);
         own.is_addition = kind == ADD;
         own.place = 0;
-        self.started_by.push(process);
+        let now = self.busy_after.len();
+        self.spans.push(Span { process, started: now, latest: now, finished: false });
         self.operations += 1;
+        self.busy += 1;
+        self.busy_after.push(self.busy);
     }
 
     pub fn step(&mut self, process: usize) {
@@ -140,6 +174,44 @@ impl Model {
             }
         }
         self.processes[process] = own;
+        self.note_step(operation, own.operation.is_none());
+    }
+
+    fn note_step(&mut self, operation: usize, finished: bool) {
+        self.spans[operation].latest = self.busy_after.len();
+        self.spans[operation].finished = finished;
+        self.busy -= finished as usize;
+        self.busy_after.push(self.busy);
+    }
+
+    fn count_contention(&mut self) {
+        let most = |from: usize, to: usize| self.busy_after[from..to].iter().copied().max().unwrap_or(0);
+        // For each process: the start and the contention of its operation after the one looked at.
+        let mut after = vec![(self.busy_after.len(), usize::MAX); self.n];
+        let mut contentions = vec![];
+        for own in self.spans.iter().rev() {
+            let (next, contention_after) = after[own.process];
+            let end = if own.finished { own.latest } else { next };
+            let contention = most(own.started, end);
+            let above_start = contention > self.busy_after[own.started];
+            let found = [
+                own.finished && above_start,
+                !own.finished && above_start,
+                own.finished && above_start && contention > most(own.started, end - 1),
+                own.finished && contention < most(end, next),
+                !own.finished && contention > most(own.started, own.latest + 1),
+                contention_after < contention,
+                contention == self.n,
+                contention == 64,
+            ];
+            for (count, found) in self.reached.contention.iter_mut().zip(found) {
+                *count += found as u64;
+            }
+            after[own.process] = (own.started, contention);
+            contentions.push(contention);
+        }
+        contentions.reverse();
+        self.contention = contentions;
     }
 
     fn take_in(&mut self, node: usize, storing: usize, own: &Process) {
@@ -151,7 +223,7 @@ impl Model {
                 let operation = 64 * word + fresh.trailing_zeros() as usize;
                 fresh &= fresh - 1;
                 new += 1;
-                if self.started_by[operation] == storing {
+                if self.spans[operation].process == storing {
                     self.reached.additions_taken_in_by_own_store += 1;
                 } else {
                     self.reached.additions_taken_in_by_another += 1;

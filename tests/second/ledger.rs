@@ -50,6 +50,8 @@ pub struct Ledger<const PROCESSES: usize, const NODES: usize> {
     rows: Vec<Row>,
     /// The row of each process's last operation.
     current: [u16; PROCESSES],
+    /// For each process: how many were busy at most right after any record from its last start on.
+    greatest: [u8; PROCESSES],
     child_reads: [ChildReads; PROCESSES],
     waiting: [Queue; NODES],
     listed: u32,
@@ -62,6 +64,7 @@ impl<const PROCESSES: usize, const NODES: usize> Ledger<PROCESSES, NODES> {
         Ledger {
             rows: Vec::with_capacity(most_operations),
             current: [NONE; PROCESSES],
+            greatest: [0; PROCESSES],
             child_reads: [ChildReads { left: 0, right: 0 }; PROCESSES],
             waiting: [Queue { first: NONE, last: NONE }; NODES],
             listed: 0,
@@ -69,12 +72,23 @@ impl<const PROCESSES: usize, const NODES: usize> Ledger<PROCESSES, NODES> {
         }
     }
 
-    pub fn into_rows(self) -> Vec<Row> {
+    /// The rows at the end of the recording.
+    pub fn into_rows(mut self) -> Vec<Row> {
+        for row in self.rows.iter_mut().filter(|row| !row.finished) {
+            row.contention = self.greatest[row.process as usize];
+        }
         self.rows
     }
 
     fn row(&mut self, process: usize) -> &mut Row {
         &mut self.rows[self.current[process] as usize]
+    }
+
+    fn finish(&mut self, process: usize) {
+        let contention = self.greatest[process];
+        let row = self.row(process);
+        row.finished = true;
+        row.contention = contention;
     }
 
     fn next_rank(&mut self) -> u32 {
@@ -115,13 +129,18 @@ impl<const PROCESSES: usize, const NODES: usize> Ledger<PROCESSES, NODES> {
 }
 
 impl<const PROCESSES: usize, const NODES: usize> Watch for Ledger<PROCESSES, NODES> {
-    fn started(&mut self, process: usize, kind: Kind, contention: u8) {
+    fn started(&mut self, process: usize, kind: Kind, busy: u8) {
+        // A step makes nobody busy, so that the count is never greater than right after some start.
+        for greatest in &mut self.greatest {
+            *greatest = busy.max(*greatest);
+        }
+        self.greatest[process] = busy;
         self.current[process] = self.rows.len() as u16;
         self.rows.push(Row {
             process: process as u8,
             kind,
             finished: false,
-            contention,
+            contention: 0,
             steps: 0,
             answer: 0,
             rank: 0,
@@ -138,9 +157,9 @@ impl<const PROCESSES: usize, const NODES: usize> Watch for Ledger<PROCESSES, NOD
     }
 
     fn root_read(&mut self, process: usize, answer: u32) {
+        self.finish(process);
         let rank = self.next_rank();
         let row = self.row(process);
-        row.finished = true;
         row.answer = answer;
         row.rank = rank;
     }
@@ -180,6 +199,6 @@ impl<const PROCESSES: usize, const NODES: usize> Watch for Ledger<PROCESSES, NOD
     }
 
     fn addition_finished(&mut self, process: usize) {
-        self.row(process).finished = true;
+        self.finish(process);
     }
 }

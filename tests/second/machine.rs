@@ -6,9 +6,9 @@ use crate::{Answer, MOST_OPERATIONS};
 
 const ROOT: usize = 1;
 
-/// Told of everything that shows in a report. `now` is the place of the record that caused it.
+/// Told of everything that shows in a report. `now` is the place of the record that caused it, `busy` how many processes are busy after it.
 pub trait Watch {
-    fn started(&mut self, process: usize, kind: Kind, contention: u8);
+    fn started(&mut self, process: usize, kind: Kind, busy: u8);
     fn stepped(&mut self, process: usize);
     fn root_read(&mut self, process: usize, answer: u32);
     fn leaf_written(&mut self, process: usize, leaf: usize, now: u32);

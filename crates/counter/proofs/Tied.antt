@@ -10,12 +10,12 @@ use lib.Dec.{ltb}
 use Rattle.arrays.proofs.Laws.{upd-same, upd-other}
 use Rattle.cell.specs.Cell.{loadLinked}
 use Rattle.meaning.specs.Tree.{processes, leafOf}
-use Rattle.meaning.specs.Access.{Access, starts, isLeafWrite}
+use Rattle.meaning.specs.Access.{Access, isLeafWrite}
 use Rattle.meaning.specs.Steps.{Process, effect, onward, cellAt, withCell, withValue, nextRecord, atStep, sawIt, idle as idleProcess}
 use Rattle.meaning.specs.Run.{Entry, Row, State, initial, started, newRow, start, rowAfter, takeStep}
 use Rattle.taken.specs.CountIn.{writesBy, countIn, countStore}
 use Rattle.ledger.proofs.Turns.{nodeAt, Turn, root, leaf, write, link, leftward, rightward, store, Next, after-root, after-leaf, after-write, after-link, after-left, after-right, after-store, idle, linking}
-use Rattle.ledger.proofs.Good.{Good, Stepping, accessBy, recordAfter, turns, goes, same-job, same-operation, by-stepper, by-process, stepped-row}
+use Rattle.ledger.proofs.Good.{Good, Stepping, accessBy, recordAfter, beginsBy, turns, goes, same-job, same-operation, by-stepper, by-process, stepped-row}
 use Rattle.tree.specs.Machine.{Move, Step}
 use Rattle.tree.proofs.Invariant.{Invariant}
 use Rattle.tree.proofs.Theorem.{begins, keeps}
@@ -106,7 +106,7 @@ module _ (h p : ℕ) (adds : Bool) (delta : ℕ) (st : State) (g : Good h st) (i
   now = start h p adds delta st
 
   abbrev e : Entry
-  e = record { process = p; operation = st .operations; access = starts; stored = false }
+  e = beginsBy h p adds delta st
 
   history-is : now .history ≡ e ∷ st .history
   unfolding start

@@ -1,6 +1,6 @@
 -- What is told by the list, through every record: the plain number run down it gives the reads their answers and ends at node 1's value; who
 -- is listed, and how often; and that the list keeps the order of finished before started.
-use Prim.Native.Nat.{ℕ, suc, _%_, _^_, _≤_, _<_}
+use Prim.Native.Nat.{ℕ, _%_, _^_, _≤_, _<_}
 use native.Mathlib.Omega.{arith}
 use mathlib.Core.Path.{_≡_, refl, sym, ap, _∙_, subst, subst⁻¹, fun-ext}
 use mathlib.Core.Logic.{_⊎_, ⊎-elim}
@@ -9,11 +9,11 @@ use mathlib.Core.List.{List, [], _∷_, _++_, append-nil, List·Memᴰ, List·Me
 use lib.ListN.{length}
 use lib.Dec.{ltb, eqb}
 use lib.Pow.{pow-mono}
-use borrow.Author.Tests.{eqb-true, eqb-false, ne-eqb, lt-ltb}
+use borrow.Author.Tests.{eqb-true, ne-eqb, lt-ltb}
 use Rattle.arrays.proofs.Laws.{upd-same, upd-other, upd-cases}
 use Rattle.cell.specs.Cell.{readOf}
 use Rattle.meaning.specs.Tree.{processes, root as treeRoot}
-use Rattle.meaning.specs.Access.{Access, starts, readsRoot, isLeafWrite, isRootRead, isStoreAt}
+use Rattle.meaning.specs.Access.{Access, readsRoot, isLeafWrite, isRootRead, isStoreAt}
 use Rattle.meaning.specs.Steps.{Process, plus, effect, onward, cellAt, nextRecord, atStep, sawIt, idle as idleProcess}
 use Rattle.meaning.specs.Run.{Entry, Row, State, initial, blank, started, kindOf, newRow, start, rowAfter, takeStep}
 use Rattle.meaning.specs.TakenIn.{keep, positionOf, placed, listed, rank}
@@ -24,12 +24,13 @@ use Rattle.listing.specs.Queue.{isCounted, operationsOf}
 use Rattle.listing.proofs.Laws.{Distinct, nothing}
 use Rattle.ledger.proofs.Did.{did, did-leaf, did-cases}
 use Rattle.ledger.proofs.Turns.{Turn, root, leaf, write, link, leftward, rightward, store, Next, after-root, after-leaf, after-write, reads-the-root, root-read-adds-not}
-use Rattle.ledger.proofs.Good.{Good, Stepping, accessBy, recordAfter, entryBy, turns, goes, root-read-ends, same-operation, by-stepper, by-process, stepped-row, good-start, false-true}
+use Rattle.ledger.proofs.Good.{Good, Stepping, accessBy, recordAfter, entryBy, beginsBy, turns, goes, root-read-ends, same-operation, by-stepper, by-process, stepped-row, good-start, false-true}
 use Rattle.ledger.proofs.Kept.{mem-keep, keep-none, mem-operations, position-le, position-first, position-second}
 use Rattle.ledger.proofs.Waiters.{rootCount, newly, placed-is, NewOrOld, old, new, new-or-old, waiters-write, waiter-writes, count-grows}
 use Rattle.ledger.proofs.Listing.{placed-read, still-waits}
 use Rattle.ledger.proofs.Placed.{once-on, placed-new, placed-apart}
 use Rattle.ledger.proofs.StepCount.{StepCount, kind-two}
+use Rattle.ledger.proofs.Held.{Held}
 use Rattle.counter.specs.SumTree.{levelOver, sumBelow, sumUnder, sumTree}
 use Rattle.counter.specs.View.{valueAfter, deltas, placesOf, standOf, climberOf, view}
 use Rattle.counter.proofs.Overs.{level-is, over-by, top}
@@ -81,7 +82,6 @@ pub record Told (h : ℕ) (st : State) : Type 0 where
   pub finished : (i : ℕ) → st .row i .finished ≡ true → List·Memᴰ i (listed h (st .history))
   pub reads : (i : ℕ) → List·Memᴰ i (listed h (st .history)) → st .row i .kind ≡ 2 → st .row i .finished ≡ true
   -- in which order
-  pub begun : (i : ℕ) → i < st .operations → st .row i .started < length (st .history)
   pub order : (i j : ℕ) → st .row i .finished ≡ true → st .row i .ended < st .row j .started → List·Memᴰ j (listed h (st .history)) → rank h (st .history) i < rank h (st .history) j
 
 rooted : {a : Access} → a ≡ readsRoot → isRootRead a ≡ true
@@ -90,7 +90,7 @@ rooted e = ap isRootRead e
 
 -- ---- a step
 
-module _ (h p : ℕ) (st : State) (s : Stepping h p st) (c : StepCount h st) (t : Tied h st) (t′ : Tied h (takeStep h p st)) (k : Told h st) where
+module _ (h p : ℕ) (st : State) (s : Stepping h p st) (c : StepCount h st) (o : Held h st) (t : Tied h st) (t′ : Tied h (takeStep h p st)) (k : Told h st) where
   abbrev st′ : State
   st′ = takeStep h p st
 
@@ -338,7 +338,7 @@ module _ (h p : ℕ) (st : State) (s : Stepping h p st) (c : StepCount h st) (t 
   order-step i j f b m = go (finished-how i f)
     where
       start : st .row j .started < length es
-      start = k .begun j (known-step j m)
+      start = o .begun j (known-step j m)
 
       go : Finished i → positionOf i (before ++ newest) < positionOf j (before ++ newest)
       go (now o z d) = absurd (omega (arith, d, same-row j .2, start, b))
@@ -367,7 +367,6 @@ module _ (h p : ℕ) (st : State) (s : Stepping h p st) (c : StepCount h st) (t 
         answers = answers-step;
         finished = finished-step;
         reads = reads-step;
-        begun = λ i b. omega (arith, same-row i .2, k .begun i b);
         order = order-step;
       }
 
@@ -375,7 +374,7 @@ module _ (h p : ℕ) (st : State) (s : Stepping h p st) (c : StepCount h st) (t 
 
 module _ (h p : ℕ) (adds : Bool) (delta : ℕ) (st : State) (g : Good h st) (inside : p < 2 ^ h) (free : st .process p .step ≡ 0) (room : st .operations < 1024) (k : Told h st) where
   abbrev begins : Entry
-  begins = record { process = p; operation = st .operations; access = starts; stored = false }
+  begins = beginsBy h p adds delta st
 
   abbrev after : State
   after = start h p adds delta st
@@ -458,18 +457,6 @@ module _ (h p : ℕ) (adds : Bool) (delta : ℕ) (st : State) (g : Good h st) (i
       (λ q x. x .adds ≡ true → 3 ≤ x .step → (w : Waiter) × List·Memᴰ w (waiters (begins ∷ st .history)) × (w .operation ≡ x .operation) × (w .process ≡ q))
       (λ a f. absurd (omega arith)) (λ q n a f. let u = k .wrote q a f in (u .0, still-waits begins (st .history) (u .0) (u .1), u .2, u .3))
 
-  begun-start : (i : ℕ) → i < suc (st .operations) → after .row i .started < suc (length (st .history))
-  unfolding start newRow
-  begun-start i b =
-      upd-cases (st .row) (st .operations) _ (λ w. w .started < suc (length (st .history))) i (λ j. omega arith) (λ n. omega (arith, k .begun i (less n)))
-    where
-      less : (i ≡ st .operations → ⊥) → i < st .operations
-      less n = go (eqb i (st .operations)) refl
-        where
-          go : (t : Bool) → eqb i (st .operations) ≡ t → i < st .operations
-          go true d = absurd (n (eqb-true i (st .operations) d))
-          go false d = let u = eqb-false i (st .operations) d in omega arith
-
   order-start : (i j : ℕ) → after .row i .finished ≡ true → after .row i .ended < after .row j .started → List·Memᴰ j (listed h (after .history))
       → rank h (after .history) i < rank h (after .history) j
   unfolding rank
@@ -480,14 +467,6 @@ module _ (h p : ℕ) (adds : Bool) (delta : ℕ) (st : State) (g : Good h st) (i
   more-operations : {i : ℕ} → i < st .operations → i < after .operations
   unfolding start
   more-operations b = omega arith
-
-  operations-are : (i : ℕ) → i < after .operations → i < suc (st .operations)
-  unfolding start
-  operations-are i b = b
-
-  longer : length (after .history) ≡ suc (length (st .history))
-  unfolding start
-  longer = refl
 
   pub told-start : Told h after
   told-start =
@@ -506,7 +485,6 @@ module _ (h p : ℕ) (adds : Bool) (delta : ℕ) (st : State) (g : Good h st) (i
         reads = λ i m d.
             let same = old-row i (k .known i (was-listed m)) in
             ap (λ (w : Row). w .finished) same ∙ k .reads i (was-listed m) (sym (ap (λ (w : Row). w .kind) same) ∙ d);
-        begun = λ i b. omega (arith, longer, begun-start i (operations-are i b));
         order = order-start;
       }
 
@@ -525,6 +503,5 @@ told-initial h =
       answers = λ i f d. absurd (false-true f);
       finished = λ i f. absurd (false-true f);
       reads = λ i m d. absurd (List·Memᴰ·not-nil m);
-      begun = λ i b. absurd (omega arith);
       order = λ i j f b m. absurd (List·Memᴰ·not-nil m);
     }

@@ -1,6 +1,6 @@
--- Whose operation is whose, through every record: a row's process is one of the tree; a busy process's operation has it in its row, as has
--- every leaf write; and who has read node 1 is a read.
-use Prim.Native.Nat.{ℕ, _^_, _≤_, _<_}
+-- Whose operation is whose, through every record: a row's process is one of the tree; a leaf write is of its row's process; and who has
+-- read node 1 is a read.
+use Prim.Native.Nat.{ℕ, _^_, _<_}
 use native.Mathlib.Omega.{arith}
 use mathlib.Core.Path.{_≡_, refl, sym, ap, _∙_}
 use mathlib.Core.Logic.{_⊎_, inl, inr, ⊎-elim}
@@ -8,18 +8,17 @@ use mathlib.Core.Bool.{Bool, true, false, cond}
 use mathlib.Core.List.{List, [], _∷_, List·Memᴰ, List·Memᴰ·append-cases, List·Memᴰ·eq-of-singleton, List·Memᴰ·not-nil}
 use lib.Pow.{pow-mono}
 use Rattle.arrays.proofs.Laws.{upd-other}
-use Rattle.meaning.specs.Access.{starts, isLeafWrite, isRootRead}
-use Rattle.meaning.specs.Steps.{idle as idleProcess}
-use Rattle.meaning.specs.Run.{Entry, Row, State, blank, initial, started, kindOf, newRow, start, rowAfter, takeStep}
+use Rattle.meaning.specs.Access.{isLeafWrite, isRootRead}
+use Rattle.meaning.specs.Run.{Entry, Row, State, blank, initial, kindOf, newRow, start, rowAfter, takeStep}
 use Rattle.meaning.specs.TakenIn.{leafWrites}
 use Rattle.ledger.proofs.Did.{did, did-now, did-on, did-cases}
 use Rattle.ledger.proofs.Turns.{root-read-adds-not}
-use Rattle.ledger.proofs.Good.{Good, Stepping, accessBy, entryBy, turns, same-operation, by-stepper, by-process, stepped-row, started-row, false-true}
+use Rattle.ledger.proofs.Good.{Good, Stepping, accessBy, entryBy, beginsBy, turns, stepped-row, started-row, false-true}
 use Rattle.ledger.proofs.StepCount.{StepCount}
+use Rattle.ledger.proofs.Held.{Held}
 
 pub record Whose (h : ℕ) (st : State) : Type 0 where
   pub inside : (i : ℕ) → st .row i .process < 2 ^ h
-  pub owner : (p : ℕ) → 1 ≤ st .process p .step → st .row (st .process p .operation) .process ≡ p
   pub readers : (i : ℕ) → did isRootRead i (st .history) ≡ true → st .row i .kind ≡ 2
   pub writers : (w : Entry) → List·Memᴰ w (leafWrites (st .history)) → st .row (w .operation) .process ≡ w .process
 
@@ -40,7 +39,7 @@ writes-did (e ∷ es) w m =
 
 -- ---- a step
 
-module _ (h p : ℕ) (st : State) (s : Stepping h p st) (c : StepCount h st) (k : Whose h st) where
+module _ (h p : ℕ) (st : State) (s : Stepping h p st) (c : StepCount h st) (o : Held h st) (k : Whose h st) where
   abbrev st′ : State
   st′ = takeStep h p st
 
@@ -57,16 +56,13 @@ module _ (h p : ℕ) (st : State) (s : Stepping h p st) (c : StepCount h st) (k 
 
   writers-step : (w : Entry) → List·Memᴰ w (leafWrites (entryBy h p st ∷ st .history)) → st .row (w .operation) .process ≡ w .process
   writers-step w m =
-      ⊎-elim (k .writers w) (λ d. ap (λ (x : Entry). st .row (x .operation) .process) (d .1) ∙ k .owner p (s .acts) ∙ sym (ap (λ (x : Entry). x .process) (d .1))) (write-cases (entryBy h p st) (st .history) w m)
+      ⊎-elim (k .writers w) (λ d. ap (λ (x : Entry). st .row (x .operation) .process) (d .1) ∙ o .own p (s .acts) ∙ sym (ap (λ (x : Entry). x .process) (d .1))) (write-cases (entryBy h p st) (st .history) w m)
 
   pub whose-step : Whose h st′
   unfolding takeStep
   whose-step =
       record {
         inside = λ i. omega (arith, same-row i .0, k .inside i);
-        owner = by-stepper h p st s (λ q r. 1 ≤ r .step → st′ .row (r .operation) .process ≡ q)
-            (λ b. ap (λ (i : ℕ). st′ .row i .process) (same-operation h p st s) ∙ same-row (st .process p .operation) .0 ∙ k .owner p (s .acts))
-            (λ q n b. same-row (st .process q .operation) .0 ∙ k .owner q b);
         readers = λ i d. same-row i .1 ∙ ⊎-elim (k .readers i) (λ r. ap (λ (x : ℕ). st .row x .kind) (r .1) ∙ own-kind (r .0)) (did-cases isRootRead i (entryBy h p st) (st .history) d);
         writers = λ w m. same-row (w .operation) .0 ∙ writers-step w m;
       }
@@ -75,16 +71,12 @@ module _ (h p : ℕ) (st : State) (s : Stepping h p st) (c : StepCount h st) (k 
 
 module _ (h p : ℕ) (adds : Bool) (delta : ℕ) (st : State) (g : Good h st) (inside : p < 2 ^ h) (free : st .process p .step ≡ 0) (room : st .operations < 1024) (k : Whose h st) where
   abbrev begins : Entry
-  begins = record { process = p; operation = st .operations; access = starts; stored = false }
+  begins = beginsBy h p adds delta st
 
   -- the rows of the operations that had started stay
   old-row : (i : ℕ) → i < st .operations → start h p adds delta st .row i ≡ st .row i
   unfolding start
   old-row i b = upd-other (st .row) (st .operations) _ i (λ j. omega arith)
-
-  new-row : start h p adds delta st .row (st .operations) .process ≡ p
-  unfolding newRow
-  new-row = started-row h p adds delta st g inside free room (st .operations) (λ w. w .process ≡ p) refl (λ n. absurd (n refl))
 
   readers-start : (i : ℕ) → did isRootRead i (begins ∷ st .history) ≡ true → start h p adds delta st .row i .kind ≡ 2
   unfolding isRootRead
@@ -103,22 +95,19 @@ module _ (h p : ℕ) (adds : Bool) (delta : ℕ) (st : State) (g : Good h st) (i
   inside-start i = started-row h p adds delta st g inside free room i (λ w. w .process < 2 ^ h) inside (λ n. k .inside i)
 
   pub whose-start : Whose h (start h p adds delta st)
-  unfolding start started
+  unfolding start
   whose-start =
       record {
         inside = inside-start;
-        owner = by-process h p adds delta st g inside free room (λ q r. 1 ≤ r .step → start h p adds delta st .row (r .operation) .process ≡ q)
-            (λ b. new-row) (λ q n b. ap (λ (w : Row). w .process) (old-row (st .process q .operation) (g .owns q b)) ∙ k .owner q b);
         readers = readers-start;
         writers = writers-start;
       }
 
 pub whose-initial : (h : ℕ) → Whose h initial
-unfolding initial idleProcess blank did leafWrites
+unfolding initial blank did leafWrites
 whose-initial h =
     record {
       inside = λ i. omega (arith, pow-mono {i = 0} {j = h} (omega arith));
-      owner = λ p b. absurd (omega arith);
       readers = λ i d. absurd (false-true d);
       writers = λ w m. absurd (List·Memᴰ·not-nil m);
     }

@@ -17,7 +17,8 @@ use Rattle.meaning.specs.Layout.{version, follows as followsOf, height, headRef
 use Rattle.meaning.specs.Tree.{processes, leafOf, left, right, parent, ancestor, root}
 use Rattle.meaning.specs.Access.{attempt, climb, additionSteps, readSteps, isRootRead, isLeafWrite, isReadOf, isStoreAt, isSecondLink}
 use Rattle.meaning.specs.Steps.{upd, cellAt, withCell, withValue, idle, stepsOf, accessOf, plus, onward, passesBy, sawIt, sawLeft, sawRight, atStep, effect, within, nextRecord}
-use Rattle.meaning.specs.Run.{blank, initial, busy, started, kindOf, newRow, start, rowAfter, takeStep, processOf, isStart, recordRefusal, takeEvent, unless, run, outcome}
+use Rattle.meaning.specs.Run.{blank, initial, busy, busyCount, started, kindOf, newRow, start, rowAfter, takeStep, processOf, isStart, recordRefusal, takeEvent, unless, run, outcome}
+use Rattle.meaning.specs.Contention.{during, contention}
 use Rattle.meaning.specs.TakenIn.{inLeaf, beforeRead, inStore, isInNode, keep, leafWrites, inRoot, placed, listed, further, positionOf, rank}
 use Rattle.meaning.specs.Plain.{numberAfter, runDown, upTo, timesIn}
 use Rattle.meaning.specs.Report.{one, rowBytes, rowsBytes, reportBytes, needed, passes, answerWith, bufferWith, reportAnswer, reportBuffer}
@@ -25,8 +26,8 @@ use Rattle.meaning.specs.Starred.{Case, join, times, step, reads, adds, recordi
 use Rattle.ledger.proofs.Good.{false-true}
 use Rattle.ledger.proofs.Kept.{mem-keep}
 use Rattle.counter.proofs.Overs.{and-both}
-use Rattle.demand.specs.ReadBack.{rowAt, operationsIn, counterIn, processIn, kindIn, finishedIn, stepsIn, answerIn, rankIn, secondsIn, withRank, byRank, listIn, startRow, startsOf, startIn, operationsFrom, operationsBy, ReadBack}
-use Rattle.demand.specs.AppliedBytes.{lettered, bytesOf, isRead, isFinished, startsAgain, column, isBefore, beforeIn, finishedBy, recordsBy, stepsBy, secondsBy, answerBy, above, rankBy, timesBy, stands, follows, documentedBefore, isSame, isHeld, changed, lastBytes, unnoticed, documentedUnnoticed}
+use Rattle.demand.specs.ReadBack.{rowAt, operationsIn, counterIn, processIn, kindIn, finishedIn, contentionIn, stepsIn, answerIn, rankIn, secondsIn, withRank, byRank, listIn, startRow, startsOf, startIn, operationsFrom, operationsBy, underWay, atOnce, mostAtOnce, ReadBack}
+use Rattle.demand.specs.AppliedBytes.{lettered, bytesOf, isRead, isFinished, startsAgain, column, isBefore, beforeIn, finishedBy, contentionBy, recordsBy, stepsBy, secondsBy, answerBy, above, rankBy, timesBy, stands, follows, documentedBefore, isSame, isHeld, changed, lastBytes, unnoticed, documentedUnnoticed}
 use Rattle.demand.proofs.Starts.{start-kinds}
 use Rattle.demand.proofs.ReadBack.{read-back}
 
@@ -153,20 +154,21 @@ module _ (s b : List ℕ) (r : ReadBack s b) where
       go false e = omega (arith, r .unfinished i)
 
   pub follow-all : stands b ≡ follows s b
-  unfolding stands follows
+  unfolding stands follows contentionBy
   follow-all =
       let m : ℕ = operationsIn b in
       next (next (r .header .0) (next (r .header .1) (next (r .rows) (next (sym (r .counter)) refl))))
       (next (column-same _ _ m (r .process))
       (next (column-same _ _ m (r .kind))
       (next (column-same _ _ m finished-by)
+      (next (column-same _ _ m (r .contention))
       (next (column-same _ _ m records-by)
       (next (column-same _ _ m steps-by)
       (next (column-same _ _ m answer-by)
       (next (column-same _ _ m (λ i l. sym (r .ranks i l)))
       (next (column-same _ _ m rank-by)
       (next (column-same _ _ m seconds-by)
-      (next (column-same _ _ m times-by) refl))))))))))
+      (next (column-same _ _ m times-by) refl)))))))))))
 
 -- a report whose columns are not so is none of the recording
 same-refl : (l : List ℕ) → isSame l l ≡ true
@@ -195,7 +197,7 @@ six : (answers lettered ≡ map (λ c. passes) lettered)
     × (map (λ c. follows (c .input) (bytesOf c)) lettered ≡ map (λ c. stands (c .report)) lettered)
     × (map (λ c. column (beforeIn (c .input) (bytesOf c)) (operationsIn (bytesOf c))) lettered ≡ documentedBefore)
     × (map unnoticed lettered ≡ documentedUnnoticed)
-unfolding nobody with countBelow readOf loadLinked succeeds storeConditional fourBytes numberAt inTable whole eventAt cutAt firstOf version followsOf height headRefusal follow recordsFrom recordsOf processes leafOf left right parent ancestor root attempt climb additionSteps readSteps isRootRead isLeafWrite isReadOf isStoreAt isSecondLink upd cellAt withCell withValue idle stepsOf accessOf plus onward passesBy sawIt sawLeft sawRight atStep effect within nextRecord blank initial busy started kindOf newRow start rowAfter takeStep processOf isStart recordRefusal takeEvent unless run outcome inLeaf beforeRead inStore isInNode keep leafWrites inRoot placed listed further positionOf rank one rowBytes rowsBytes reportBytes needed passes answerWith bufferWith reportAnswer reportBuffer join times step reads adds recording reportOf row refusal acceptance cases lent numberAfter runDown upTo timesIn rowAt operationsIn counterIn processIn kindIn finishedIn stepsIn answerIn rankIn secondsIn withRank byRank listIn startRow startsOf startIn operationsFrom operationsBy bytesOf isRead isFinished startsAgain isBefore beforeIn finishedBy recordsBy stepsBy secondsBy answerBy above rankBy timesBy column stands follows isSame isHeld changed lastBytes unnoticed documentedBefore documentedUnnoticed lettered
+unfolding nobody with countBelow readOf loadLinked succeeds storeConditional fourBytes numberAt inTable whole eventAt cutAt firstOf version followsOf height headRefusal follow recordsFrom recordsOf processes leafOf left right parent ancestor root attempt climb additionSteps readSteps isRootRead isLeafWrite isReadOf isStoreAt isSecondLink upd cellAt withCell withValue idle stepsOf accessOf plus onward passesBy sawIt sawLeft sawRight atStep effect within nextRecord blank initial busy busyCount started kindOf newRow start rowAfter takeStep processOf isStart recordRefusal takeEvent unless run outcome during contention inLeaf beforeRead inStore isInNode keep leafWrites inRoot placed listed further positionOf rank one rowBytes rowsBytes reportBytes needed passes answerWith bufferWith reportAnswer reportBuffer join times step reads adds recording reportOf row refusal acceptance cases lent numberAfter runDown upTo timesIn rowAt operationsIn counterIn processIn kindIn finishedIn contentionIn stepsIn answerIn rankIn secondsIn withRank byRank listIn startRow startsOf startIn operationsFrom operationsBy underWay atOnce mostAtOnce bytesOf isRead isFinished startsAgain isBefore beforeIn finishedBy contentionBy recordsBy stepsBy secondsBy answerBy above rankBy timesBy column stands follows isSame isHeld changed lastBytes unnoticed documentedBefore documentedUnnoticed lettered
 six = (refl, refl, refl, refl)
 
 -- so the columns of the bytes that report leaves are the documented ones
@@ -206,6 +208,6 @@ applied-bytes = all-follow lettered (six .0) ∙ six .1
 pub six-before : map (λ c. column (beforeIn (c .input) (bytesOf c)) (operationsIn (bytesOf c))) lettered ≡ documentedBefore
 six-before = six .2
 
--- each column of the documented reports but one byte is held
+-- each column of the documented reports is held, but for one finished byte of each except A
 pub six-unnoticed : map unnoticed lettered ≡ documentedUnnoticed
 six-unnoticed = six .3

@@ -13,13 +13,14 @@ use Rattle.recording.proofs.Laws.{number-there, number-of-bytes-there}
 use Rattle.rows.proofs.Laws.{length-rowsBytes}
 use Rattle.meaning.specs.Tree.{root}
 use Rattle.meaning.specs.Run.{Row, State}
+use Rattle.meaning.specs.Contention.{contention}
 use Rattle.meaning.specs.TakenIn.{rank}
 use Rattle.meaning.specs.Report.{one, rowBytes, rowsBytes, reportBytes}
-use Rattle.demand.specs.ReadBack.{rowAt, operationsIn, counterIn, processIn, kindIn, finishedIn, stepsIn, answerIn, rankIn, secondsIn}
+use Rattle.demand.specs.ReadBack.{rowAt, operationsIn, counterIn, processIn, kindIn, finishedIn, contentionIn, stepsIn, answerIn, rankIn, secondsIn}
 
 module _ (h : ℕ) (st : State) where
   abbrev bytesAt : ℕ → List ℕ
-  bytesAt i = rowBytes (st .row i) (rank h (st .history) i)
+  bytesAt i = rowBytes (st .row i) (contention (st .row i) (st .history)) (rank h (st .history) i)
 
   -- the rows before row i, row i, and those after it
   rows-split : (i k : ℕ) → i < k → (after : List ℕ) × (rowsBytes h st k ≡ rowsBytes h st i ++ (bytesAt i ++ after))
@@ -98,13 +99,17 @@ module _ (h : ℕ) (st : State) where
     unfolding finishedIn rowBytes
     finished-in i b = byte-at i 2 b .1
 
+    pub contention-in : (i : ℕ) → i < st .operations → contentionIn bytes i ≡ contention (st .row i) (st .history)
+    unfolding contentionIn rowBytes
+    contention-in i b = byte-at i 3 b .1
+
     pub steps-in : (i : ℕ) → i < st .operations → st .row i .steps < 2 ^ 32 → stepsIn bytes i ≡ st .row i .steps
     unfolding stepsIn rowBytes fourBytes
     steps-in i b small =
         let r = number-in i 4 b in
         let w : Row = st .row i in
         r .1
-        ∙ number-of-bytes-there (w .process ∷ w .kind ∷ one (w .finished) ∷ w .contention ∷ []) (w .steps) (fourBytes (w .answer) ++ fourBytes (rank h (st .history) i) ++ fourBytes (w .seconds) ++ r .0) small
+        ∙ number-of-bytes-there (w .process ∷ w .kind ∷ one (w .finished) ∷ contention w (st .history) ∷ []) (w .steps) (fourBytes (w .answer) ++ fourBytes (rank h (st .history) i) ++ fourBytes (w .seconds) ++ r .0) small
 
     pub answer-in : (i : ℕ) → i < st .operations → st .row i .answer < 2 ^ 32 → answerIn bytes i ≡ st .row i .answer
     unfolding answerIn rowBytes fourBytes
@@ -112,7 +117,7 @@ module _ (h : ℕ) (st : State) where
         let r = number-in i 8 b in
         let w : Row = st .row i in
         r .1
-        ∙ number-of-bytes-there (w .process ∷ w .kind ∷ one (w .finished) ∷ w .contention ∷ fourBytes (w .steps)) (w .answer) (fourBytes (rank h (st .history) i) ++ fourBytes (w .seconds) ++ r .0) small
+        ∙ number-of-bytes-there (w .process ∷ w .kind ∷ one (w .finished) ∷ contention w (st .history) ∷ fourBytes (w .steps)) (w .answer) (fourBytes (rank h (st .history) i) ++ fourBytes (w .seconds) ++ r .0) small
 
     pub rank-in : (i : ℕ) → i < st .operations → rank h (st .history) i < 2 ^ 32 → rankIn bytes i ≡ rank h (st .history) i
     unfolding rankIn rowBytes fourBytes
@@ -120,7 +125,7 @@ module _ (h : ℕ) (st : State) where
         let r = number-in i 12 b in
         let w : Row = st .row i in
         r .1
-        ∙ number-of-bytes-there (w .process ∷ w .kind ∷ one (w .finished) ∷ w .contention ∷ fourBytes (w .steps) ++ fourBytes (w .answer)) (rank h (st .history) i) (fourBytes (w .seconds) ++ r .0) small
+        ∙ number-of-bytes-there (w .process ∷ w .kind ∷ one (w .finished) ∷ contention w (st .history) ∷ fourBytes (w .steps) ++ fourBytes (w .answer)) (rank h (st .history) i) (fourBytes (w .seconds) ++ r .0) small
 
     pub seconds-in : (i : ℕ) → i < st .operations → st .row i .seconds < 2 ^ 32 → secondsIn bytes i ≡ st .row i .seconds
     unfolding secondsIn rowBytes fourBytes
@@ -128,4 +133,4 @@ module _ (h : ℕ) (st : State) where
         let r = number-in i 16 b in
         let w : Row = st .row i in
         r .1
-        ∙ number-of-bytes-there (w .process ∷ w .kind ∷ one (w .finished) ∷ w .contention ∷ fourBytes (w .steps) ++ fourBytes (w .answer) ++ fourBytes (rank h (st .history) i)) (w .seconds) (r .0) small
+        ∙ number-of-bytes-there (w .process ∷ w .kind ∷ one (w .finished) ∷ contention w (st .history) ∷ fourBytes (w .steps) ++ fourBytes (w .answer) ++ fourBytes (rank h (st .history) i)) (w .seconds) (r .0) small

@@ -11,6 +11,8 @@ use Rattle.meaning.specs.TakenIn.{listed, rank}
 use Rattle.ledger.proofs.Good.{Good, Stepping, false-true}
 use Rattle.ledger.proofs.Kept.{found}
 use Rattle.ledger.proofs.StepCount.{StepCount, count-step, count-start, count-initial}
+use Rattle.ledger.proofs.Held.{Held, held-step, held-start, held-initial}
+use Rattle.contention.proofs.UnderWay.{UnderWay, under-way-step, under-way-start, under-way-initial}
 use Rattle.counter.proofs.Tied.{Tied, tied-step, tied-start, tied-initial}
 use Rattle.counter.proofs.Told.{Told, told-step, told-start, told-initial, root-value}
 use Rattle.counter.proofs.Whose.{Whose, whose-step, whose-start, whose-initial}
@@ -24,27 +26,40 @@ use Rattle.demand.proofs.OneList.{list-of, list-one, places}
 pub record Carried (h : ℕ) (st : State) : Type 0 where
   pub counted : StepCount h st
   pub tied : Tied h st
+  pub held : Held h st
   pub told : Told h st
   pub whose : Whose h st
+  pub underWay : UnderWay h st
 
 carried-step : (h p : ℕ) (st : State) → Stepping h p st → Carried h st → Carried h (takeStep h p st)
 carried-step h p st s c =
     let t = tied-step h p st s (c .tied) in
-    record { counted = count-step h p st s (c .counted); tied = t; told = told-step h p st s (c .counted) (c .tied) t (c .told); whose = whose-step h p st s (c .counted) (c .whose) }
+    record {
+      counted = count-step h p st s (c .counted);
+      tied = t;
+      held = held-step h p st s (c .held);
+      told = told-step h p st s (c .counted) (c .held) (c .tied) t (c .told);
+      whose = whose-step h p st s (c .counted) (c .held) (c .whose);
+      underWay = under-way-step h p st s (c .held) (c .underWay);
+    }
 
 carried-start : (h p : ℕ) (adds : Bool) (delta : ℕ) (st : State) → Good h st → p < 2 ^ h → st .process p .step ≡ 0 → st .operations < 1024 → Carried h st → Carried h (start h p adds delta st)
 carried-start h p adds delta st g b f o c =
     record {
       counted = count-start h p adds delta st g b f o (c .counted);
       tied = tied-start h p adds delta st g b f o (c .tied);
+      held = held-start h p adds delta st g b f o (c .held);
       told = told-start h p adds delta st g b f o (c .told);
       whose = whose-start h p adds delta st g b f o (c .whose);
+      underWay = under-way-start h p adds delta st b f (c .held) (c .underWay);
     }
 
 -- it holds after every accepted recording
 pub carried : (s : List ℕ) (st : State) → outcome s ≡ accepted st → Good (height s) st × Carried (height s) st
 carried s st e =
-    accepted-keeps Carried (λ h. record { counted = count-initial h; tied = tied-initial h; told = told-initial h; whose = whose-initial h }) (λ h p x y z. carried-step h p x y z)
+    accepted-keeps Carried
+    (λ h. record { counted = count-initial h; tied = tied-initial h; held = held-initial h; told = told-initial h; whose = whose-initial h; underWay = under-way-initial h })
+    (λ h p x y z. carried-step h p x y z)
     (λ h p a d x y b f o z. carried-start h p a d x y b f o z) s st e
 
 pub demand-3 : (s : List ℕ) (st : State) → outcome s ≡ accepted st → Demand3 (height s) st

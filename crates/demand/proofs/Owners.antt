@@ -1,19 +1,17 @@
--- Whose operation each row is: an unfinished one is its process's own, and the last that its process started. What a row has while it is
--- no finished read, and how many second attempts go with how many steps.
-use Prim.Native.Nat.{ℕ, _+_, _-_, _*_, _/_, _%_, _^_, _≤_, _<_}
+-- An unfinished operation is the last that its process started. What a row has while it is no finished read, and how many second attempts
+-- go with how many steps.
+use Prim.Native.Nat.{ℕ, _+_, _-_, _*_, _/_, _%_, _≤_, _<_}
 use native.Mathlib.Omega.{arith}
 use mathlib.Core.Path.{_≡_, refl, sym, ap, _∙_, subst}
 use mathlib.Core.Logic.{_⊎_, inl, inr, ⊎-elim}
 use mathlib.Core.Bool.{Bool, true, false, cond}
 use mathlib.Core.List.{List, [], _∷_, List·Memᴰ, List·Memᴰ·append-cases, List·Memᴰ·eq-of-singleton, List·Memᴰ·not-nil}
-use lib.ListN.{length}
 use lib.Dec.{leb, eqb}
 use borrow.Author.Tests.{leb-true, leb-false, eqb-true, eqb-false}
-use Rattle.arrays.proofs.Laws.{upd-cases}
 use Rattle.meaning.specs.Layout.{height}
 use Rattle.meaning.specs.Access.{Access, isRootRead, isLeafWrite, isSecondLink}
 use Rattle.meaning.specs.Steps.{Process, idle as idleProcess}
-use Rattle.meaning.specs.Run.{Entry, Row, State, blank, initial, started, kindOf, newRow, start, rowAfter, takeStep, accepted, outcome}
+use Rattle.meaning.specs.Run.{Entry, State, blank, initial, started, kindOf, newRow, start, rowAfter, takeStep, accepted, outcome}
 use Rattle.meaning.specs.TakenIn.{keep, placed, listed}
 use Rattle.machine.proofs.Laws.{last-addition}
 use Rattle.taken.specs.CountIn.{waiters}
@@ -23,14 +21,12 @@ use Rattle.ledger.proofs.Kept.{mem-keep, mem-operations}
 use Rattle.ledger.proofs.Waiters.{newly, placed-is, waiter-writes}
 use Rattle.ledger.proofs.Listing.{placed-read}
 use Rattle.ledger.proofs.Turns.{Turn, root, leaf, write, link, leftward, rightward, store}
-use Rattle.ledger.proofs.Good.{Good, Stepping, accessBy, recordAfter, turns, goes, same-operation, by-stepper, stepped-row, root-read-ends, false-true}
-use Rattle.ledger.proofs.StepCount.{StepCount, Going, kind-two, kind-three, not-done, count-step, count-start, count-initial}
+use Rattle.ledger.proofs.Good.{Good, Stepping, accessBy, recordAfter, turns, goes, same-operation, stepped-row, root-read-ends, false-true, row-cases, process-cases}
+use Rattle.ledger.proofs.StepCount.{StepCount, Going, kind-two, kind-three, count-step, count-start, count-initial}
+use Rattle.ledger.proofs.Held.{Held, of-row}
 use Rattle.engine.proofs.Accepted.{accepted-keeps}
+use Rattle.demand.proofs.Holds.{carried}
 use Rattle.demand.proofs.Starts.{kind-else}
-
--- a process's record that is busy with operation i
-abbrev Held : ℕ → Process → Type 0
-Held i x = (1 ≤ x .step) × (x .operation ≡ i)
 
 -- f second attempts of n steps, of height h
 abbrev pub Attempts : ℕ → ℕ → ℕ → Type 0
@@ -50,10 +46,6 @@ going-attempts h s n f low last g = go (leb 3 s) refl
     go false e = let b = leb-false 3 s e in let q = g .early (omega arith) in ((omega (arith, q .1), omega (arith, q .1), omega (arith, q .0)), λ few. omega arith)
 
 record Owned (h : ℕ) (st : State) : Type 0 where
-  -- a busy process's row names it
-  own : (p : ℕ) → 1 ≤ st .process p .step → st .row (st .process p .operation) .process ≡ p
-  -- an unfinished row's process is busy with it
-  held : (i : ℕ) → i < st .operations → st .row i .finished ≡ false → Held i (st .process (st .row i .process))
   -- no row is later than its process's operation
   latest : (i : ℕ) → i < st .operations → i ≤ st .process (st .row i .process) .operation
   -- no answer but a finished read's, and no second attempt of a read
@@ -64,8 +56,6 @@ owned-initial : (h : ℕ) → Owned h initial
 unfolding initial idleProcess blank
 owned-initial h =
     record {
-      own = λ p b. absurd (omega arith);
-      held = λ i b f. absurd (omega arith);
       latest = λ i b. absurd (omega arith);
       silent = λ i n. refl;
       plain = λ i k. refl;
@@ -83,24 +73,8 @@ read-links-not h p st (rightward e t w) d = refl
 read-links-not h p st (store e t w) d = refl
 
 module _ (h p : ℕ) (st : State) (s : Stepping h p st) (c : StepCount h st) (k : Owned h st) where
-  -- a row's process stays
-  same-process : (i : ℕ) → takeStep h p st .row i .process ≡ st .row i .process
-  unfolding rowAfter
-  same-process i = stepped-row h p st s i (λ w. w .process ≡ st .row i .process) (λ e. ap (λ (j : ℕ). st .row j .process) (sym e)) (λ n. refl)
-
-  -- the record of a row's process after the step
-  of-row : (i : ℕ) (P : Process → Type 0) → (st .row i .process ≡ p → P (recordAfter h p st)) → ((st .row i .process ≡ p → ⊥) → P (st .process (st .row i .process)))
-      → P (takeStep h p st .process (takeStep h p st .row i .process))
-  of-row i P now before =
-      by-stepper h p st s (λ q x. q ≡ st .row i .process → P x) (λ e. now (sym e)) (λ q n e. subst (λ (j : ℕ). P (st .process j)) (sym e) (before (λ z. n (e ∙ z))))
-      (takeStep h p st .row i .process) (same-process i)
-
   abbrev r : Process
   r = st .process p
-
-  -- its own row
-  named : (i : ℕ) → i ≡ r .operation → st .row i .process ≡ p
-  named i e = ap (λ (j : ℕ). st .row j .process) e ∙ k .own p (s .acts)
 
   is-read : st .row (r .operation) .kind ≡ 2 → r .adds ≡ false
   is-read d = kind-two (r .adds) (sym (c .kinds p (s .acts)) ∙ d)
@@ -117,47 +91,25 @@ module _ (h p : ℕ) (st : State) (s : Stepping h p st) (c : StepCount h st) (k 
   unfolding rowAfter takeStep
   owned-step =
       record {
-        own = by-stepper h p st s (λ q x. 1 ≤ x .step → takeStep h p st .row (x .operation) .process ≡ q)
-            (λ b. same-process (recordAfter h p st .operation) ∙ named (recordAfter h p st .operation) (same-operation h p st s))
-            (λ q n b. same-process (st .process q .operation) ∙ k .own q b);
-        held = λ i b. stepped-row h p st s i (λ w. w .finished ≡ false → Held i (takeStep h p st .process (takeStep h p st .row i .process)))
-            (λ e f. of-row i (Held i) (λ o. (not-done (recordAfter h p st .step) f, same-operation h p st s ∙ sym e)) (λ o. absurd (o (named i e))))
-            (λ n f. of-row i (Held i) (λ o. absurd (n (sym (k .held i b f .1) ∙ ap (λ (q : ℕ). st .process q .operation) o))) (λ o. k .held i b f));
-        latest = λ i b. of-row i (λ x. i ≤ x .operation) (λ o. omega (arith, same-operation h p st s, k .latest i b, ap (λ (q : ℕ). st .process q .operation) o)) (λ o. k .latest i b);
+        latest = λ i b. of-row h p st s i (λ x. i ≤ x .operation) (λ o. omega (arith, same-operation h p st s, k .latest i b, ap (λ (q : ℕ). st .process q .operation) o)) (λ o. k .latest i b);
         silent = λ i. stepped-row h p st s i (λ w. (w .kind ≡ 2 → w .finished ≡ false) → w .answer ≡ 0) (λ e. silent-now (isRootRead (accessBy h p st)) refl) (λ n. k .silent i);
         plain = λ i. stepped-row h p st s i (λ w. w .kind ≡ 2 → w .seconds ≡ 0)
             (λ e d. omega (arith, k .plain (r .operation) d, ap {B = ℕ} (λ (t : Bool). cond t 1 0) (read-links-not h p st (turns h p st s) (is-read d)))) (λ n. k .plain i);
       }
 
-module _ (h p : ℕ) (adds : Bool) (delta : ℕ) (st : State) (g : Good h st) (inside : p < 2 ^ h) (free : st .process p .step ≡ 0) (room : st .operations < 1024) (k : Owned h st) where
+module _ (h p : ℕ) (adds : Bool) (delta : ℕ) (st : State) (k : Owned h st) where
   abbrev after : State
   after = start h p adds delta st
-
-  -- the new row, and the others
-  new-or-old : (i : ℕ) (P : Row → Type 0) → (i ≡ st .operations → P (newRow h p adds delta (after .process) (length (st .history)))) → ((i ≡ st .operations → ⊥) → P (st .row i)) → P (after .row i)
-  unfolding start
-  new-or-old i P now before = upd-cases (st .row) (st .operations) _ P i now before
-
-  -- the record of process q after the start
-  of-process : (q : ℕ) (P : Process → Type 0) → (q ≡ p → P (started (st .operations) adds delta)) → ((q ≡ p → ⊥) → P (st .process q)) → P (after .process q)
-  unfolding start
-  of-process q P now before = upd-cases (st .process) p _ P q now before
 
   owned-start : Owned h after
   unfolding start started newRow
   owned-start =
       record {
-        own = λ q. of-process q (λ x. 1 ≤ x .step → after .row (x .operation) .process ≡ q)
-            (λ e b. new-or-old (st .operations) (λ w. w .process ≡ q) (λ o. sym e) (λ n. absurd (n refl)))
-            (λ n b. new-or-old (st .process q .operation) (λ w. w .process ≡ q) (λ e. absurd (omega (arith, g .owns q b))) (λ m. k .own q b));
-        held = λ i b. new-or-old i (λ w. w .finished ≡ false → Held i (after .process (w .process)))
-            (λ e f. of-process p (Held i) (λ o. (omega arith, sym e)) (λ n. absurd (n refl)))
-            (λ n f. of-process (st .row i .process) (Held i) (λ o. absurd (omega (arith, k .held i (omega arith) f .0, ap (λ (q : ℕ). st .process q .step) o, free))) (λ o. k .held i (omega arith) f));
-        latest = λ i b. new-or-old i (λ w. i ≤ after .process (w .process) .operation)
-            (λ e. of-process p (λ x. i ≤ x .operation) (λ o. omega arith) (λ n. absurd (n refl)))
-            (λ n. of-process (st .row i .process) (λ x. i ≤ x .operation) (λ o. omega arith) (λ o. k .latest i (omega arith)));
-        silent = λ i. new-or-old i (λ w. (w .kind ≡ 2 → w .finished ≡ false) → w .answer ≡ 0) (λ e n. refl) (λ n. k .silent i);
-        plain = λ i. new-or-old i (λ w. w .kind ≡ 2 → w .seconds ≡ 0) (λ e d. refl) (λ n. k .plain i);
+        latest = λ i b. row-cases h p adds delta st i (λ w. i ≤ after .process (w .process) .operation)
+            (λ e. process-cases h p adds delta st p (λ x. i ≤ x .operation) (λ o. omega arith) (λ n. absurd (n refl)))
+            (λ n. process-cases h p adds delta st (st .row i .process) (λ x. i ≤ x .operation) (λ o. omega arith) (λ o. k .latest i (omega arith)));
+        silent = λ i. row-cases h p adds delta st i (λ w. (w .kind ≡ 2 → w .finished ≡ false) → w .answer ≡ 0) (λ e n. refl) (λ n. k .silent i);
+        plain = λ i. row-cases h p adds delta st i (λ w. w .kind ≡ 2 → w .seconds ≡ 0) (λ e d. refl) (λ n. k .plain i);
       }
 
 -- ---- what is listed has read the root or written its leaf
@@ -182,19 +134,19 @@ abbrev Both : ℕ → State → Type 0
 Both h st = StepCount h st × Owned h st
 
 module _ (s : List ℕ) (st : State) (e : outcome s ≡ accepted st) where
-  both : Good (height s) st × Both (height s) st
-  both =
-      accepted-keeps Both (λ h. (count-initial h, owned-initial h)) (λ h p x y z. (count-step h p x y (z .0), owned-step h p x y (z .0) (z .1)))
-      (λ h p a d x g b f o z. (count-start h p a d x g b f o (z .0), owned-start h p a d x g b f o (z .1))) s st e
-
   good : Good (height s) st
-  good = both .0
+  good = carried s st e .0
 
   counted : StepCount (height s) st
-  counted = both .1 .0
+  counted = carried s st e .1 .counted
+
+  holds : Held (height s) st
+  holds = carried s st e .1 .held
 
   owned : Owned (height s) st
-  owned = both .1 .1
+  owned =
+      accepted-keeps Both (λ h. (count-initial h, owned-initial h)) (λ h p x y z. (count-step h p x y (z .0), owned-step h p x y (z .0) (z .1)))
+      (λ h p a d x g b f o z. (count-start h p a d x g b f o (z .0), owned-start h p a d x (z .1))) s st e .1 .1
 
   -- an operation whose process starts again has finished
   pub finished-again : (i j : ℕ) → i < j → j < st .operations → st .row i .process ≡ st .row j .process → st .row i .finished ≡ true
@@ -202,7 +154,7 @@ module _ (s : List ℕ) (st : State) (e : outcome s ≡ accepted st) where
     where
       go : (t : Bool) → st .row i .finished ≡ t → t ≡ true
       go true f = refl
-      go false f = absurd (omega (arith, owned .held i (omega arith) f .1, owned .latest j b, ap (λ (q : ℕ). st .process q .operation) same))
+      go false f = absurd (omega (arith, holds .held i (omega arith) f .1, owned .latest j b, ap (λ (q : ℕ). st .process q .operation) same))
 
   pub no-answer : (i : ℕ) → (st .row i .kind ≡ 2 → st .row i .finished ≡ false) → st .row i .answer ≡ 0
   no-answer = owned .silent
@@ -217,7 +169,7 @@ module _ (s : List ℕ) (st : State) (e : outcome s ≡ accepted st) where
   going-row : (i : ℕ) → i < st .operations → st .row i .finished ≡ false → Unread i (st .process (st .row i .process))
   going-row i b f =
       let p : ℕ = st .row i .process in
-      let o = owned .held i b f in
+      let o = holds .held i b f in
       subst (λ (j : ℕ). Unread j (st .process p)) (o .1) (counted .kinds p (o .0), counted .reading p (o .0), counted .adding p (o .0))
 
   pub unread-steps : (i : ℕ) → i < st .operations → st .row i .kind ≡ 2 → st .row i .finished ≡ false → st .row i .steps ≡ 0
@@ -249,7 +201,7 @@ module _ (s : List ℕ) (st : State) (e : outcome s ≡ accepted st) where
   pub early-unlisted : (i : ℕ) → i < st .operations → st .row i .finished ≡ false → st .row i .steps < 2 → List·Memᴰ i (listed (height s) (st .history)) → ⊥
   early-unlisted i b f few m =
       let p : ℕ = st .row i .process in
-      let o = owned .held i b f in
+      let o = holds .held i b f in
       let never : (kind : Access → Bool) → did kind (st .process p .operation) (st .history) ≡ false → did kind i (st .history) ≡ true → ⊥ = λ kind n d. false-true (sym n ∙ ap (λ (j : ℕ). did kind j (st .history)) (o .1) ∙ d) in
       ⊎-elim (never isRootRead (good .unread p (o .0)))
       (never isLeafWrite (good .fresh p (o .0) (λ a. under-way i b f a .1 few)))

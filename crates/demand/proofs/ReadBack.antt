@@ -1,20 +1,24 @@
--- Demand 3 holds of the bytes that report writes: read back with the recording, they give the list, the answers and the counter.
-use Prim.Native.Nat.{ℕ, _+_, _*_, _%_, _^_, _≤_, _<_}
+-- Demand 3 holds of the bytes that report writes: read back with the recording, they give the contentions, the list, the answers and the counter.
+use Prim.Native.Nat.{ℕ, zero, suc, _+_, _*_, _%_, _^_, max, _≤_, _<_}
 use native.Mathlib.Omega.{arith}
 use mathlib.Core.Path.{_≡_, refl, sym, ap, _∙_, subst₂, subst⁻¹}
 use mathlib.Core.Bool.{Bool, true, false, cond}
 use mathlib.Core.List.{List, [], _∷_, _++_, List·Memᴰ}
 use lib.ListN.{length, drop}
 use lib.Dec.{leb, eqb}
+use Rattle.sets.specs.Processes.{countBelow}
+use Rattle.sets.proofs.Laws.{count-same}
 use Rattle.recording.specs.Record.{Answer}
 use Rattle.meaning.specs.Layout.{height}
 use Rattle.meaning.specs.Steps.{plus}
 use Rattle.meaning.specs.Run.{Row, State, Outcome, refused, accepted, outcome}
+use Rattle.meaning.specs.Contention.{during}
 use Rattle.meaning.specs.TakenIn.{listed, positionOf, rank}
 use Rattle.meaning.specs.Plain.{numberAfter, runDown, upTo, timesIn}
 use Rattle.meaning.specs.Report.{one, reportBytes, needed, passes, answerWith, bufferWith, reportAnswer, reportBuffer}
 use Rattle.ledger.proofs.Good.{Good}
 use Rattle.ledger.proofs.Kept.{position-le}
+use Rattle.contention.proofs.UnderWay.{underWayAt, greatestOver, contention-over}
 use Rattle.counter.proofs.Number.{run-same}
 use Rattle.counter.proofs.Lists.{mem-up-to, times-not, times-once}
 use Rattle.counter.proofs.Told.{Told}
@@ -22,13 +26,13 @@ use Rattle.entries.specs.Promises.{answerOf, Reports}
 use Rattle.entries.specs.declared.Reply.{Reply}
 use Rattle.entries.proofs.Laws.{refusal-positive}
 use Rattle.demand.specs.Demand3.{Demand3}
-use Rattle.demand.specs.ReadBack.{operationsIn, counterIn, processIn, kindIn, finishedIn, stepsIn, answerIn, rankIn, secondsIn, listIn, startRow, startIn, operationsBy, ReadBack}
+use Rattle.demand.specs.ReadBack.{operationsIn, counterIn, processIn, kindIn, finishedIn, contentionIn, stepsIn, answerIn, rankIn, secondsIn, listIn, startRow, startIn, operationsBy, underWay, atOnce, mostAtOnce, ReadBack}
 use Rattle.demand.proofs.Holds.{carried, demand-3}
 use Rattle.demand.proofs.ByRank.{few, by-rank}
 use Rattle.demand.proofs.Starts.{starts-many, start-in}
-use Rattle.demand.proofs.Records.{ended-before, steps-by}
+use Rattle.demand.proofs.Records.{ended-before, steps-by, records-many, under-way}
 use Rattle.demand.proofs.Owners.{Attempts, finished-again, no-answer, no-seconds, unread-steps, attempts, early-unlisted}
-use Rattle.demand.proofs.Bytes.{version-in, length-in, operations-in, counter-in, process-in, kind-in, finished-in, steps-in, answer-in, rank-in, seconds-in}
+use Rattle.demand.proofs.Bytes.{version-in, length-in, operations-in, counter-in, process-in, kind-in, finished-in, contention-in, steps-in, answer-in, rank-in, seconds-in}
 
 -- a recording that report passes is accepted, and its report stands at the buffer's front
 passed : (s buf : List ℕ) → reportAnswer s buf ≡ passes → (st : State) × (outcome s ≡ accepted st) × (reportBuffer s buf ≡ reportBytes (height s) st ++ drop (needed st) buf)
@@ -149,6 +153,34 @@ module _ (s : List ℕ) (st : State) (e : outcome s ≡ accepted st) (rest : Lis
   same-process : (i : ℕ) → i < operationsIn b → processIn b i ≡ st .row i .process
   same-process i l = process-in h st rest i (started i l)
 
+  -- ---- the contention
+
+  abbrev all : List ℕ
+  all = operationsBy s
+
+  -- how many are under way right after the record that had k before it
+  abbrev now : ℕ → ℕ
+  now = underWayAt (st .row) (st .operations)
+
+  in-way : (k i : ℕ) → k < length (st .history) → i < st .operations → underWay b all (suc k) i ≡ during (st .row i) k
+  in-way k i m l = under-way s st e b i k l (finished-in h st rest i l) m
+
+  at-once : (k : ℕ) → k < length (st .history) → atOnce b all (suc k) ≡ now k
+  unfolding atOnce
+  at-once k m = ap (λ (n : ℕ). countBelow n (underWay b all (suc k))) operations ∙ count-same (st .operations) _ _ (λ i l. in-way k i m l)
+
+  most-at-once : (i n : ℕ) → i < st .operations → n ≤ length (st .history) → mostAtOnce b all i n ≡ greatestOver n (during (st .row i)) now
+  unfolding mostAtOnce greatestOver
+  most-at-once i zero l m = refl
+  most-at-once i (suc n) l m = λ t. max (most-at-once i n l (omega arith) t) (cond (in-way n i (omega arith) l t) (at-once n (omega arith) t) 0)
+
+  contention-by : (i : ℕ) → i < operationsIn b → contentionIn b i ≡ mostAtOnce b all i (length all)
+  contention-by i l =
+      contention-in h st rest i (started i l) ∙ contention-over h st (carried s st e .1 .underWay) (st .row i)
+      ∙ sym (ap (mostAtOnce b all i) (records-many s st e) ∙ most-at-once i (length (st .history)) (started i l) (omega arith))
+
+  -- ---- the other columns
+
   again : (i j : ℕ) → i < j → j < operationsIn b → processIn b i ≡ processIn b j → finishedIn b i ≡ 1
   unfolding one
   again i j m l same =
@@ -177,6 +209,7 @@ module _ (s : List ℕ) (st : State) (e : outcome s ≡ accepted st) (rest : Lis
         kind = λ i l. kind-in h st rest i (started i l) ∙ sym (told-by i (started i l) .1);
         either = λ i l. omega (arith, finished-in h st rest i (started i l), finished-few (st .row i .finished));
         steps = λ i l. steps-by s st e i (started i l) ∙ omega (arith, steps i l);
+        contention = contention-by;
         again = again;
         answers = answers;
         counter = counter;

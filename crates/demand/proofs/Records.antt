@@ -1,25 +1,28 @@
--- Which operation each record is of: as the recording tells it, as the history has it, and where an operation's first and last stand.
+-- Which operation each record is of: as the recording tells it, as the history has it; where an operation's first and last stand.
 use Prim.Native.Nat.{ℕ, zero, suc, _+_, _^_, _≤_, _<_}
+use native.Mathlib.Nat.{zero-add}
 use native.Mathlib.Omega.{arith}
-use mathlib.Core.Path.{_≡_, refl, sym, ap, _∙_}
+use mathlib.Core.Path.{_≡_, refl, sym, ap, ap₂, _∙_}
 use mathlib.Core.Logic.{⊎-elim}
-use mathlib.Core.Bool.{Bool, true, false, cond}
+use mathlib.Core.Bool.{Bool, true, false, not, cond, _&&_, _||_}
 use mathlib.Core.List.{List, [], _∷_, _++_, append-nil, append-assoc, List·Memᴰ, List·Memᴰ·head, List·Memᴰ·append-cases, List·Memᴰ·eq-of-singleton, List·Memᴰ·not-nil, Memᴰ·append-left, Memᴰ·append-right}
-use lib.ListN.{length, getD, length-append, List·getD-append}
-use lib.Seq.{getD-at}
-use lib.Dec.{eqb, ltb}
-use borrow.Author.Tests.{eqb-true, eqb-false, eq-eqb, ne-eqb, ltb-true, ltb-false}
+use lib.ListN.{length, getD, take, length-append, List·getD-append}
+use lib.Seq.{getD-at, take-all, take-append-le}
+use lib.Dec.{eqb, leb, ltb, leb·suc-suc}
+use borrow.Author.Tests.{eqb-true, eqb-false, eq-eqb, ne-eqb, ltb-true, ltb-false, le-leb, lt-leb}
 use Rattle.arrays.proofs.Laws.{upd-cases}
 use Rattle.recording.specs.declared.Event.the-variants.{Step, Read, Add}
 use Rattle.meaning.specs.Layout.{Records, end, broken, event, height, recordsOf}
 use Rattle.meaning.specs.Steps.{upd, nextRecord, atStep, idle}
 use Rattle.meaning.specs.Run.{Entry, State, blank, initial, started, newRow, start, rowAfter, takeStep, takeEvent, recordRefusal, accepted, run, outcome}
+use Rattle.meaning.specs.Contention.{during}
 use Rattle.meaning.specs.Plain.{upTo, timesIn}
+use Rattle.meaning.specs.Report.{one}
 use Rattle.machine.proofs.Laws.{effect-keeps}
 use Rattle.ledger.proofs.Good.{Good, Stepping, recordAfter, accessBy, stepped-row, false-true}
 use Rattle.counter.proofs.Lists.{up-to-first, up-to-last, times-not}
 use Rattle.engine.proofs.Accepted.{none-refused, accepted-run, accepted-keeps}
-use Rattle.demand.specs.ReadBack.{operationsFrom, operationsBy}
+use Rattle.demand.specs.ReadBack.{finishedIn, operationsFrom, operationsBy, underWay}
 
 -- the operations of the history's entries, the earliest first
 abbrev operationsIn : List Entry → List ℕ
@@ -72,11 +75,15 @@ operations-by s st e = sym (run-operations (height s) initial (recordsOf s) st (
 
 -- ---- an operation's first and last
 
+-- i stands at n, and nowhere after it
+abbrev Last : List ℕ → ℕ → ℕ → Type 0
+Last l i n = (n < length l) × (getD l n 0 ≡ i) × (timesIn i (take (suc n) l) ≡ timesIn i l)
+
 record Placed (h : ℕ) (st : State) : Type 0 where
   known : (i : ℕ) → List·Memᴰ i (operationsIn (st .history)) → i < st .operations
   begun : (i : ℕ) → i < st .operations → List·Memᴰ i (operationsIn (st .history))
   first : (i : ℕ) → i < st .operations → length (upTo i (operationsIn (st .history))) ≡ st .row i .started
-  last : (i : ℕ) → st .row i .finished ≡ true → (st .row i .ended < length (st .history)) × (getD (operationsIn (st .history)) (st .row i .ended) 0 ≡ i)
+  last : (i : ℕ) → st .row i .finished ≡ true → Last (operationsIn (st .history)) i (st .row i .ended)
   -- its start and its steps
   many : (i : ℕ) → i < st .operations → timesIn i (operationsIn (st .history)) ≡ suc (st .row i .steps)
 
@@ -92,9 +99,18 @@ times-own i j l e = times-more i j l ∙ ap (λ (t : Bool). timesIn i l + cond t
 times-other : (i j : ℕ) (l : List ℕ) → (i ≡ j → ⊥) → timesIn i (l ++ (j ∷ [])) ≡ timesIn i l
 times-other i j l n = times-more i j l ∙ ap (λ (t : Bool). timesIn i l + cond t 1 0) (ne-eqb i j n) ∙ omega arith
 
--- what was the last stays so, with one more after it
-last-stays : (es : List Entry) (j i n : ℕ) → (n < length es) × (getD (operationsIn es) n 0 ≡ i) → (n < suc (length es)) × (getD (operationsIn es ++ (j ∷ [])) n 0 ≡ i)
-last-stays es j i n k = (omega (arith, k .0), List·getD-append (operationsIn es) (j ∷ []) 0 n (omega (arith, k .0, length-operations es)) ∙ k .1)
+-- what is added is the last of its own, and no other's
+last-now : (i j n : ℕ) (l : List ℕ) → i ≡ j → length l ≡ n → Last (l ++ (j ∷ [])) i n
+last-now i j n l e m =
+    let long = length-append l (j ∷ []) in
+    (omega (arith, long), getD-at l j [] 0 n m ∙ sym e, ap (λ (k : List ℕ). timesIn i k) (take-all (suc n) (l ++ (j ∷ [])) (omega (arith, long))))
+
+last-stays : (i j n : ℕ) (l : List ℕ) → (i ≡ j → ⊥) → Last l i n → Last (l ++ (j ∷ [])) i n
+last-stays i j n l o k = (
+  omega (arith, k .0, length-append l (j ∷ [])),
+  List·getD-append l (j ∷ []) 0 n (k .0) ∙ k .1,
+  ap (λ (m : List ℕ). timesIn i m) (take-append-le (suc n) l (j ∷ []) (omega (arith, k .0))) ∙ k .2 ∙ sym (times-other i j l o),
+)
 
 placed-initial : (h : ℕ) → Placed h initial
 unfolding initial blank
@@ -115,9 +131,8 @@ placed-step h p st s k =
       begun = λ i b. Memᴰ·append-left _ (k .begun i b);
       first = λ i b. stepped-row h p st s i (λ w. length (upTo i (before ++ (own ∷ []))) ≡ w .started)
           (λ e. stays i b ∙ ap (λ (j : ℕ). st .row j .started) e) (λ n. stays i b);
-      last = λ i. stepped-row h p st s i (λ w. w .finished ≡ true → (w .ended < suc (length (st .history))) × (getD (before ++ (own ∷ [])) (w .ended) 0 ≡ i))
-          (λ e f. (omega arith, getD-at before own [] 0 (length (st .history)) (length-operations (st .history)) ∙ sym e))
-          (λ n f. last-stays (st .history) own i (st .row i .ended) (k .last i f));
+      last = λ i. stepped-row h p st s i (λ w. w .finished ≡ true → Last (before ++ (own ∷ [])) i (w .ended))
+          (λ e f. last-now i own (length (st .history)) before e (length-operations (st .history))) (λ n f. last-stays i own (st .row i .ended) before n (k .last i f));
       many = λ i b. stepped-row h p st s i (λ w. timesIn i (before ++ (own ∷ [])) ≡ suc (w .steps))
           (λ e. times-own i own before e ∙ ap suc (k .many i b) ∙ ap (λ (j : ℕ). suc (suc (st .row j .steps))) e)
           (λ n. times-other i own before n ∙ k .many i b);
@@ -141,8 +156,8 @@ placed-start h p adds delta st g inside free room k =
       first = λ i b. upd-cases (st .row) new _ (λ w. length (upTo i (before ++ (new ∷ []))) ≡ w .started) i
           (λ e. ap (λ (j : ℕ). length (upTo j (before ++ (new ∷ [])))) e ∙ ap length (up-to-last new before (λ m. omega (arith, k .known new m))) ∙ length-operations (st .history))
           (λ n. ap length (up-to-first i before (new ∷ []) (k .begun i (omega arith))) ∙ k .first i (omega arith));
-      last = λ i. upd-cases (st .row) new _ (λ w. w .finished ≡ true → (w .ended < suc (length (st .history))) × (getD (before ++ (new ∷ [])) (w .ended) 0 ≡ i)) i
-          (λ e f. absurd (false-true f)) (λ n f. last-stays (st .history) new i (st .row i .ended) (k .last i f));
+      last = λ i. upd-cases (st .row) new _ (λ w. w .finished ≡ true → Last (before ++ (new ∷ [])) i (w .ended)) i
+          (λ e f. absurd (false-true f)) (λ n f. last-stays i new (st .row i .ended) before n (k .last i f));
       many = λ i b. upd-cases (st .row) new _ (λ w. timesIn i (before ++ (new ∷ [])) ≡ suc (w .steps)) i
           (λ e. times-own i new before e ∙ ap suc (times-not i before (λ m. omega (arith, k .known i m))))
           (λ n. times-other i new before n ∙ k .many i (omega arith));
@@ -169,18 +184,31 @@ times-some i n [] b e = absurd (omega arith)
 times-some i zero (x ∷ l) b e = rw (eq-eqb i x (sym e)) (omega arith)
 times-some i (suc n) (x ∷ l) b e = omega (arith, times-some i n l (omega arith) e)
 
--- an element that stands at j's first or after it is more often in the whole list than before j
-times-later : (i j n : ℕ) (l : List ℕ) → length (upTo j l) ≤ n → n < length l → getD l n 0 ≡ i → timesIn i (upTo j l) < timesIn i l
-unfolding upTo timesIn
-times-later i j n [] a b e = absurd (omega arith)
-times-later i j n (x ∷ l) a b e = go (eqb j x) n a b e (λ k. times-later i j k l)
+-- with what stands at k or after it, the whole list has it more often than the first k
+times-front : (i n k : ℕ) (l : List ℕ) → k ≤ n → n < length l → getD l n 0 ≡ i → timesIn i (take k l) < timesIn i l
+unfolding timesIn
+times-front i n k [] a b e = absurd (omega arith)
+times-front i n zero (x ∷ l) a b e = times-some i n (x ∷ l) b e
+times-front i zero (suc k) (x ∷ l) a b e = absurd (omega arith)
+times-front i (suc n) (suc k) (x ∷ l) a b e = omega (arith, times-front i n k l (omega arith) (omega arith) e)
+
+-- what stands among the first m alone stands among the first k alone
+times-within : (i m k : ℕ) (l : List ℕ) → m ≤ k → timesIn i (take m l) ≡ timesIn i l → timesIn i (take k l) ≡ timesIn i l
+unfolding timesIn
+times-within i zero zero l a e = e
+times-within i (suc m) zero l a e = absurd (omega arith)
+times-within i m (suc k) [] a e = refl
+times-within i zero (suc k) (x ∷ l) a e = ap (λ (n : ℕ). cond (eqb i x) 1 0 + n) (times-within i zero k l (omega arith) (omega arith))
+times-within i (suc m) (suc k) (x ∷ l) a e = ap (λ (n : ℕ). cond (eqb i x) 1 0 + n) (times-within i m k l (omega arith) (omega arith))
+
+up-to-front : (j : ℕ) (l : List ℕ) → upTo j l ≡ take (length (upTo j l)) l
+unfolding upTo
+up-to-front j [] = refl
+up-to-front j (x ∷ l) = go (eqb j x) (up-to-front j l)
   where
-    go : (t : Bool) (n : ℕ) → length (cond t [] (x ∷ upTo j l)) ≤ n → n < suc (length l) → getD (x ∷ l) n 0 ≡ i
-        → ((k : ℕ) → length (upTo j l) ≤ k → k < length l → getD l k 0 ≡ i → timesIn i (upTo j l) < timesIn i l)
-        → timesIn i (cond t [] (x ∷ upTo j l)) < cond (eqb i x) 1 0 + timesIn i l
-    go true n a b e ih = times-some i n (x ∷ l) b e
-    go false zero a b e ih = absurd (omega arith)
-    go false (suc n) a b e ih = omega (arith, ih n (omega arith) (omega arith) e)
+    go : (t : Bool) → upTo j l ≡ take (length (upTo j l)) l → cond t [] (x ∷ upTo j l) ≡ take (length (cond t [] (x ∷ upTo j l))) (x ∷ l)
+    go true ih = refl
+    go false ih = ap (λ (m : List ℕ). x ∷ m) ih
 
 placed : (s : List ℕ) (st : State) → outcome s ≡ accepted st → Placed (height s) st
 placed s st e = accepted-keeps Placed placed-initial (λ h p x y z. placed-step h p x y z) (λ h p a d x g c f o z. placed-start h p a d x g c f o z) s st e .1
@@ -204,8 +232,51 @@ ended-before s st e i j b f all = go (ltb (st .row i .ended) (st .row j .started
         let l = k .last i f in
         absurd
         (omega
-        (arith, its, times-later i j (st .row i .ended) list (omega (arith, ltb-false (st .row i .ended) (st .row j .started) d, k .first j b)) (omega (arith, l .0, length-operations (st .history))) (l .1)))
+        (arith, its, ap (λ (m : List ℕ). timesIn i m) (up-to-front j list), times-front i (st .row i .ended) (length (upTo j list)) list (omega (arith, ltb-false (st .row i .ended) (st .row j .started) d, k .first j b)) (l .0) (l .1)))
 
 -- an operation's records are its start and its steps
 pub steps-by : (s : List ℕ) (st : State) → outcome s ≡ accepted st → (i : ℕ) → i < st .operations → timesIn i (operationsBy s) ≡ suc (st .row i .steps)
 steps-by s st e i b = ap (λ (l : List ℕ). timesIn i l) (operations-by s st e) ∙ placed s st e .many i b
+
+-- ---- under way
+
+-- i stands among the first suc k exactly if its first does
+begun-by : (i k : ℕ) (l : List ℕ) → k < length l → leb 1 (timesIn i (take (suc k) l)) ≡ leb (length (upTo i l)) k
+unfolding timesIn upTo
+begun-by i k [] b = absurd (omega arith)
+begun-by i k (x ∷ l) b = go (eqb i x) k b (λ n. begun-by i n l)
+  where
+    go : (t : Bool) (k : ℕ) → k < suc (length l) → ((n : ℕ) → n < length l → leb 1 (timesIn i (take (suc n) l)) ≡ leb (length (upTo i l)) n)
+        → leb 1 (cond t 1 0 + timesIn i (take k l)) ≡ leb (length (cond t [] (x ∷ upTo i l))) k
+    go true k b ih = le-leb 1 (1 + timesIn i (take k l)) (omega arith) ∙ sym (le-leb 0 k (omega arith))
+    go false zero b ih = sym (lt-leb (suc (length (upTo i l))) 0 (omega arith))
+    go false (suc k) b ih = ap (leb 1) (zero-add (timesIn i (take (suc k) l))) ∙ ih k (omega arith) ∙ sym (leb·suc-suc (length (upTo i l)) k)
+
+-- and there alone exactly if its last does
+ended-by : (i n k : ℕ) (l : List ℕ) → Last l i n → not (eqb (timesIn i (take (suc k) l)) (timesIn i l)) ≡ ltb k n
+ended-by i n k l z = go (ltb k n) refl
+  where
+    early : ℕ
+    early = timesIn i (take (suc k) l)
+
+    go : (t : Bool) → ltb k n ≡ t → not (eqb early (timesIn i l)) ≡ t
+    go true d = ap not (ne-eqb early (timesIn i l) (λ e. omega (arith, times-front i n (suc k) l (ltb-true k n d) (z .0) (z .1))))
+    go false d = ap not (eq-eqb early (timesIn i l) (times-within i (suc n) (suc k) l (omega (arith, ltb-false k n d)) (z .2)))
+
+module _ (s : List ℕ) (st : State) (e : outcome s ≡ accepted st) where
+  pub records-many : length (operationsBy s) ≡ length (st .history)
+  records-many = ap length (operations-by s st e) ∙ length-operations (st .history)
+
+  pub under-way : (b : List ℕ) (i k : ℕ) → i < st .operations → finishedIn b i ≡ one (st .row i .finished) → k < length (st .history)
+      → underWay b (operationsBy s) (suc k) i ≡ during (st .row i) k
+  unfolding underWay during one
+  under-way b i k l f m =
+      ap (λ (all : List ℕ). underWay b all (suc k) i) (operations-by s st e)
+      ∙ ap₂ (λ (x y : Bool). x && y) (begun-by i k list (omega (arith, length-operations (st .history))) ∙ ap (λ (n : ℕ). leb n k) (placed s st e .first i l)) (go (st .row i .finished) refl f)
+    where
+      list : List ℕ
+      list = operationsIn (st .history)
+
+      go : (t : Bool) → st .row i .finished ≡ t → finishedIn b i ≡ cond t 1 0 → not (eqb (finishedIn b i) 1 && eqb (timesIn i (take (suc k) list)) (timesIn i list)) ≡ (not t || ltb k (st .row i .ended))
+      go true d z = rw z (ended-by i (st .row i .ended) k list (placed s st e .last i d))
+      go false d z = rw z

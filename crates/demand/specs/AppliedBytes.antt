@@ -11,7 +11,7 @@ use Rattle.meaning.specs.TakenIn.{keep, positionOf}
 use Rattle.meaning.specs.Plain.{runDown, upTo, timesIn}
 use Rattle.meaning.specs.Report.{reportBuffer}
 use Rattle.meaning.specs.Starred.{Case, join, cases, lent}
-use Rattle.demand.specs.ReadBack.{rowAt, operationsIn, counterIn, processIn, kindIn, finishedIn, stepsIn, answerIn, rankIn, secondsIn, listIn, startsOf, startIn, operationsBy}
+use Rattle.demand.specs.ReadBack.{rowAt, operationsIn, counterIn, processIn, kindIn, finishedIn, contentionIn, stepsIn, answerIn, rankIn, secondsIn, listIn, startsOf, startIn, operationsBy, mostAtOnce}
 
 -- A to F are the last six of the starred cases
 unfoldable pub lettered : List Case
@@ -53,6 +53,10 @@ beforeIn s b j = keep (isBefore s b j) (column (λ i. i) (operationsIn b))
 unfoldable pub finishedBy : List ℕ → ℕ → ℕ
 finishedBy b i = cond (isRead b i) (stepsIn b i) (cond (startsAgain b i (operationsIn b)) 1 (min 1 (finishedIn b i)))
 
+-- by the starts, the last records and the finished column
+unfoldable pub contentionBy : List ℕ → List ℕ → ℕ → ℕ
+contentionBy s b i = mostAtOnce b (operationsBy s) i (length (operationsBy s))
+
 -- the records of i but its start
 unfoldable pub recordsBy : List ℕ → ℕ → ℕ
 recordsBy s i = timesIn i (operationsBy s) - 1
@@ -91,6 +95,7 @@ stands b =
     ∷ rows (processIn b)
     ∷ rows (kindIn b)
     ∷ rows (finishedIn b)
+    ∷ rows (contentionIn b)
     ∷ rows (stepsIn b)
     ∷ rows (stepsIn b)
     ∷ rows (answerIn b)
@@ -108,6 +113,7 @@ follows s b =
     ∷ rows (λ i. startIn s i .process)
     ∷ rows (λ i. startIn s i .kind)
     ∷ rows (finishedBy b)
+    ∷ rows (contentionBy s b)
     ∷ rows (recordsBy s)
     ∷ rows (stepsBy (height s) b)
     ∷ rows (answerBy s b)
@@ -144,20 +150,21 @@ isHeld s b = isSame (join (stands b)) (join (follows s b))
 unfoldable pub changed : List ℕ → ℕ → List ℕ
 changed b k = set b k (cond (eqb (getD b k 0) 0) 1 (getD b k 0 - 1))
 
--- the last byte of each column but contention: version, length and counter, then by rows
+-- the last byte of each column: version, length and counter, then by rows
 unfoldable pub lastBytes : ℕ → List ℕ
 lastBytes zero = 0 ∷ 4 ∷ 8 ∷ []
-lastBytes (suc k) = lastBytes k ++ (rowAt k ∷ (rowAt k + 1) ∷ (rowAt k + 2) ∷ (rowAt k + 7) ∷ (rowAt k + 11) ∷ (rowAt k + 15) ∷ (rowAt k + 19) ∷ [])
+lastBytes (suc k) = lastBytes k ++ (rowAt k ∷ (rowAt k + 1) ∷ (rowAt k + 2) ∷ (rowAt k + 3) ∷ (rowAt k + 7) ∷ (rowAt k + 11) ∷ (rowAt k + 15) ∷ (rowAt k + 19) ∷ [])
 
 -- those of a documented report whose change no clause refuses
 unfoldable pub unnoticed : Case → List ℕ
 unnoticed c = keep (λ k. isHeld (c .input) (changed (c .report) k)) (lastBytes (operationsIn (c .report)))
 
--- In each it is one: the finished byte of an addition with 2 + 4h steps that its process started last. Whether its SC at node 1 was the
--- last or failed, with a second attempt to come, is the tree's to say.
+-- In A none, where the addition, were it still under way, would raise the read's contention. In each other one: the finished byte of an
+-- addition with 2 + 4h steps that its process started last. Whether its SC at node 1 was the last or failed, with a second attempt to come,
+-- is the tree's to say.
 unfoldable pub documentedUnnoticed : List (List ℕ)
 documentedUnnoticed =
-    ((rowAt 0 + 2) ∷ [])
+    []
     ∷ ((rowAt 0 + 2) ∷ [])
     ∷ ((rowAt 0 + 2) ∷ [])
     ∷ ((rowAt 1 + 2) ∷ [])

@@ -1,11 +1,12 @@
--- Demand 3 as someone can try it who has the recording s and the report's bytes b alone, and runs no tree: every column but the contention
--- is held to the recording, the list is made of the rows' ranks, and the deltas are those of the start records.
-use Prim.Native.Nat.{ℕ, zero, suc, _+_, _-_, _*_, _/_, _≤_, _<_}
+-- Demand 3 as someone can try it who has the recording s and the report's bytes b alone, and runs no tree: every column is held to the
+-- recording, the list is made of the rows' ranks, and the deltas are those of the start records.
+use Prim.Native.Nat.{ℕ, zero, suc, _+_, _-_, _*_, _/_, max, _≤_, _<_}
 use mathlib.Core.Path.{_≡_}
-use mathlib.Core.Bool.{false, cond}
+use mathlib.Core.Bool.{Bool, false, not, cond, _&&_}
 use mathlib.Core.List.{List, [], _∷_, _++_}
-use lib.ListN.{length, getD}
-use lib.Dec.{eqb}
+use lib.ListN.{length, getD, take}
+use lib.Dec.{eqb, leb}
+use Rattle.sets.specs.Processes.{countBelow}
 use Rattle.recording.specs.Numbers.{numberAt}
 use Rattle.recording.specs.declared.Event.the-variants.{Step, Read, Add}
 use Rattle.meaning.specs.Layout.{height, Records, end, broken, event, recordsOf}
@@ -35,6 +36,9 @@ kindIn b i = getD b (rowAt i + 1) 0
 
 unfoldable pub finishedIn : List ℕ → ℕ → ℕ
 finishedIn b i = getD b (rowAt i + 2) 0
+
+unfoldable pub contentionIn : List ℕ → ℕ → ℕ
+contentionIn b i = getD b (rowAt i + 3) 0
 
 unfoldable pub stepsIn : List ℕ → ℕ → ℕ
 stepsIn b i = numberAt b (rowAt i + 4)
@@ -68,7 +72,7 @@ listIn b = byRank (rankIn b) (operationsIn b) (operationsIn b)
 -- a row of which only process, kind and delta are told
 unfoldable pub startRow : ℕ → ℕ → ℕ → Row
 startRow p kind delta =
-    record { process = p; kind = kind; delta = delta; finished = false; contention = 0; steps = 0; answer = 0; seconds = 0; started = 0; ended = 0 }
+    record { process = p; kind = kind; delta = delta; finished = false; steps = 0; answer = 0; seconds = 0; started = 0; ended = 0 }
 
 -- those of the start records in their order, which is the rows'; a read's delta is 0
 unfoldable pub startsOf : Records → List Row
@@ -96,6 +100,21 @@ operationsFrom m latest (event at (Add p d) rest) = m ∷ operationsFrom (suc m)
 unfoldable pub operationsBy : List ℕ → List ℕ
 operationsBy s = operationsFrom 0 (λ p. 0) (recordsOf s)
 
+-- ---- how many operations are under way at once, told by the starts, each operation's last record and the finished column
+
+-- whether operation i is under way after the first k records: one of them is its start, and its last record, if that finished it, is to come
+unfoldable pub underWay : List ℕ → List ℕ → ℕ → ℕ → Bool
+underWay b all k i =
+    leb 1 (timesIn i (take k all)) && not (eqb (finishedIn b i) 1 && eqb (timesIn i (take k all)) (timesIn i all))
+
+unfoldable pub atOnce : List ℕ → List ℕ → ℕ → ℕ
+atOnce b all k = countBelow (operationsIn b) (underWay b all k)
+
+-- the greatest number at once, over those of the first k records after which operation i is under way
+unfoldable pub mostAtOnce : List ℕ → List ℕ → ℕ → ℕ → ℕ
+mostAtOnce b all i zero = 0
+mostAtOnce b all i (suc k) = max (mostAtOnce b all i k) (cond (underWay b all (suc k) i) (atOnce b all (suc k)) 0)
+
 -- ---- demand 3
 
 pub record ReadBack (s b : List ℕ) : Type 0 where
@@ -107,6 +126,9 @@ pub record ReadBack (s b : List ℕ) : Type 0 where
   pub either : (i : ℕ) → i < operationsIn b → finishedIn b i ≤ 1
   -- "Each operation's count of steps is the number of kind 1 records it used": its records are these and its start record
   pub steps : (i : ℕ) → i < operationsIn b → timesIn i (operationsBy s) ≡ 1 + stepsIn b i
+  -- "the greatest count of ones in the busy set right after any record from the start up to, but without, the operation's last step; for an
+  -- unfinished one, up to the end": who is busy is who is under way
+  pub contention : (i : ℕ) → i < operationsIn b → contentionIn b i ≡ mostAtOnce b (operationsBy s) i (length (operationsBy s))
   -- "8: a start for a process that is busy": where i's process starts again, i has finished
   pub again : (i j : ℕ) → i < j → j < operationsIn b → processIn b i ≡ processIn b j → finishedIn b i ≡ 1
   -- "One plain number from 0, run down that list modulo 2^32, gives every read its reported answer and ends at the root's value."

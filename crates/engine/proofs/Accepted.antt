@@ -1,19 +1,21 @@
 -- What holds after every accepted recording: an invariant of starts and steps holds of the state that the run ends in.
 use Prim.Native.Nat.{ℕ, zero, suc, _+_, _*_, _^_, _≤_, _<_}
 use native.Mathlib.Omega.{arith}
-use mathlib.Core.Path.{_≡_, refl, sym, ap, _∙_, subst, subst⁻¹}
+use mathlib.Core.Path.{_≡_, refl, _∙_, subst, subst⁻¹}
 use mathlib.Core.Bool.{Bool, true, false}
 use mathlib.Core.List.{List}
-use Rattle.recording.specs.Record.{Answer}
+use lib.Pow.{pow-mono}
 use Rattle.recording.specs.declared.Event.{Event}
 use Rattle.meaning.specs.Layout.{Records, end, broken, event, headRefusal, height, recordsOf}
 use Rattle.meaning.specs.Alone.{alone}
-use Rattle.meaning.specs.Run.{State, initial, busy, processOf as processIn, isStart, start, takeStep, takeEvent, recordRefusal, Outcome, refused, accepted, unless, run, outcome}
+use Rattle.meaning.specs.Run.{Row, State, initial, busy, processOf as processIn, isStart, start, takeStep, takeEvent, recordRefusal, Outcome, accepted, unless, run, outcome}
+use Rattle.meaning.specs.Contention.{contention}
 use Rattle.rows.proofs.Laws.{RowFits}
 use Rattle.rules.proofs.Laws.{Passes, header-passes, Taken, refusal-passes, refusal-is}
 use Rattle.ledger.proofs.Good.{Good, Stepping, good-step, good-start, good-initial}
-use Rattle.ledger.proofs.StepCount.{StepCount, Gone, count-step, count-start, count-initial}
+use Rattle.ledger.proofs.StepCount.{StepCount, count-step, count-start, count-initial}
 use Rattle.ledger.proofs.Alone.{alone-ends}
+use Rattle.contention.proofs.Greatest.{Small, small-initial, small-step, small-start}
 use Rattle.engine.specs.Ends.{addsOf, deltaOf}
 use Rattle.engine.proofs.Agrees.{is-busy, is-idle}
 use Rattle.engine.proofs.Runs.{take-step, take-start}
@@ -74,6 +76,12 @@ counted s st e = accepted-keeps StepCount count-initial (λ h p x y z. count-ste
 -- the numbers of a row fit the report's columns
 pub accepted-fits : (s : List ℕ) (st : State) → outcome s ≡ accepted st → (i : ℕ) → RowFits (st .row i)
 accepted-fits s st e = counted s st e .0 .fits
+
+-- and so does its contention
+pub accepted-small : (s : List ℕ) (st : State) → outcome s ≡ accepted st → (w : Row) → contention w (st .history) < 256
+accepted-small s st e w =
+    let r = accepted-keeps Small small-initial (λ h p x y z. small-step h p x z) (λ h p a d x g b f o z. small-start h p a d x z) s st e in
+    omega (arith, r .1 w, pow-mono (r .0 .high))
 
 -- "A finished read has 1. A finished addition has 2 + 4h + 4f, where f is its number of second attempts, 0 to h."; "no addition has taken
 -- 2 + 8h steps and is still unfinished"; no row has more

@@ -12,17 +12,22 @@ use lib.Dec.{eqb}
 use borrow.Author.Tests.{eqb-true, eqb-false, not-true}
 use Rattle.sets.specs.Processes.{with, countBelow, isIn}
 use Rattle.sets.proofs.Laws.{is-with, is-without, count-beyond}
-use Rattle.arrays.proofs.Laws.{upd-same, upd-other, upd-is}
+use Rattle.arrays.proofs.Laws.{upd-is}
 use Rattle.meaning.specs.Tree.{processes}
 use Rattle.meaning.specs.Steps.{upd, Memory, Process, effect, accessOf, nextRecord}
-use Rattle.meaning.specs.Run.{State, busy, started, kindOf, start, takeStep}
+use Rattle.meaning.specs.Run.{State, busy, busyCount, started, kindOf, start, takeStep}
 use Rattle.machine.specs.Arrays.{memoryOf, processOf, idleRecord, startedRecord}
 use Rattle.machine.specs.Nexts.{Nexts, effectOf, CanStep, lastStep}
 use Rattle.machine.specs.declared.Process.{Process as Record}
 use Rattle.ledger.specs.Kept.{Kept, keptStep, keptStart}
 use Rattle.ledger.proofs.Good.{Good, Stepping, good-step, good-start, effectBy, recordAfter}
 use Rattle.ledger.proofs.Keeps.{Keeps, keeps-step, keeps-start}
+use Rattle.ledger.proofs.Numbers.{shownAfter}
 use Rattle.ledger.proofs.Total.{Total, total-step, total-start}
+use Rattle.ledger.proofs.Held.{Held, held-step, held-start}
+use Rattle.contention.specs.Greatest.{raised}
+use Rattle.contention.proofs.Busy.{busy-at, busy-else}
+use Rattle.contention.proofs.Greatest.{Greatest, greatest-step, greatest-start}
 use Rattle.engine.specs.Tries.{busyThen}
 
 -- the definition's records of the processes
@@ -40,23 +45,18 @@ pub record Agrees (h at : ℕ) (st : State) (vals links : List ℕ) (ps : List R
   pub place : 3 * length (st .history) + 6 ≤ at
   pub started : 3 * m + 6 ≤ at
 
-pub record Ledger (h : ℕ) (st : State) (k : Kept) : Type 0 where
-  pub keeps : Keeps h st k
+pub record Ledger (h : ℕ) (st : State) (k : Kept) (greatest : ℕ → ℕ) : Type 0 where
+  -- the contentions that the rows have
+  pub shown : ℕ → ℕ
+  pub keeps : Keeps h st shown k
   pub total : Total st k
+  pub held : Held h st
+  pub most : Greatest h st shown greatest
 
 -- the processes' records after a store
 procs-set : (ps : List Record) (p : ℕ) (r : Record) → p < length ps → procsOf (set ps p r) ≡ upd (procsOf ps) p (processOf r)
 procs-set ps p r b =
     upd-is (procsOf ps) p (processOf r) (procsOf (set ps p r)) (ap processOf (getD-set-same ps p r idleRecord b)) (λ q n. ap processOf (getD-set-other ps p q r idleRecord n))
-
--- who is busy after a process's record changed
-busy-at : (f : ℕ → Process) (p : ℕ) (r : Process) → busy (upd f p r) p ≡ not (eqb (r .step) 0)
-unfolding busy
-busy-at f p r = ap (λ (x : Process). not (eqb (x .step) 0)) (upd-same f p r)
-
-busy-else : (f : ℕ → Process) (p : ℕ) (r : Process) (q : ℕ) → (q ≡ p → ⊥) → busy (upd f p r) q ≡ busy f q
-unfolding busy
-busy-else f p r q n = ap (λ (x : Process). not (eqb (x .step) 0)) (upd-other f p r q n)
 
 pub is-busy : (f : ℕ → Process) (p : ℕ) → busy f p ≡ true → 1 ≤ f p .step
 unfolding busy
@@ -131,19 +131,27 @@ module _ (h at : ℕ) (st : State) (vals links : List ℕ) (ps : List Record) (s
         busy-now : busy (st .process) p ≡ true
         busy-now = ap (λ (f : ℕ → Bool). f p) (sym (A .busySet)) ∙ acts
 
-    pub ledger-step : (k k′ : Kept) → Ledger h st k → k′ ≡ keptStep h p (processOf (getD ps p idleRecord)) (processOf r) (r .stored) k → Ledger h (takeStep h p st) k′
+    pub ledger-step : (k k′ : Kept) (greatest : ℕ → ℕ) → Ledger h st k greatest
+        → k′ ≡ keptStep h p (processOf (getD ps p idleRecord)) (processOf r) (r .stored) (greatest p) k → Ledger h (takeStep h p st) k′ greatest
     unfolding effectOf
-    ledger-step k k′ L ek =
+    ledger-step k k′ greatest L ek =
         record {
-          keeps = subst (Keeps h (takeStep h p st)) (sym kept) (keeps-step h p st stepping k (L .keeps));
-          total = subst (Total (takeStep h p st)) (sym kept) (total-step h p st stepping k (L .keeps) (L .total));
+          shown = upd (L .shown) (st .process p .operation) (shownAfter (recordAfter h p st) (greatest p));
+          keeps = subst (Keeps h (takeStep h p st) _) (sym kept) (keeps-step h p st stepping (L .shown) k (L .keeps) none (greatest p));
+          total = subst (Total (takeStep h p st)) (sym kept) (total-step h p st stepping (L .shown) k (L .keeps) (L .total) (greatest p));
+          held = held-step h p st stepping (L .held);
+          most = greatest-step h p st stepping (L .held) (L .shown) greatest (L .most);
         }
       where
+        -- its row shows no contention yet
+        none : L .shown (st .process p .operation) ≡ 0
+        none = L .most .unfinished (st .process p .operation) (A .good .owns p (stepping .acts)) (A .good .unfinished p (stepping .acts))
+
         sto : r .stored ≡ effectBy h p st .stored
         sto = n .stored ∙ ap₂ (λ (x : Process) (w : Memory). effect p x w (accessOf h p x) .stored) its (A .memory)
 
-        kept : k′ ≡ keptStep h p (st .process p) (recordAfter h p st) (effectBy h p st .stored) k
-        kept = ek ∙ (λ i. keptStep h p (its i) (rec i) (sto i) k)
+        kept : k′ ≡ keptStep h p (st .process p) (recordAfter h p st) (effectBy h p st .stored) (greatest p) k
+        kept = ek ∙ (λ i. keptStep h p (its i) (rec i) (sto i) (greatest p) k)
 
 -- ---- a start
 
@@ -194,18 +202,22 @@ module _ (h at : ℕ) (st : State) (vals links : List ℕ) (ps : List Record) (s
         procs-now =
             ap procsOf ep ∙ procs-set ps p (startedRecord m adds delta) (omega (arith, A .long, low)) ∙ ap₂ (λ (f : ℕ → Process) (x : Process). upd f p x) (A .procs) new-record
 
-    pub ledger-start : (contention : ℕ) (k k′ : Kept) → Ledger h st k → contention ≡ countBelow 64 (isIn set′) → k′ ≡ keptStart m p (kindOf adds) contention k → Ledger h begun k′
-    unfolding start processes
-    ledger-start contention k k′ L ec ek =
+    pub ledger-start : (count : ℕ) (k k′ : Kept) (greatest greatest′ : ℕ → ℕ) → Ledger h st k greatest → count ≡ countBelow 64 (isIn set′) → k′ ≡ keptStart m p (kindOf adds) k
+        → greatest′ ≡ raised p count greatest → Ledger h begun k′ greatest′
+    unfolding start busyCount processes
+    ledger-start count k k′ greatest greatest′ L ec ek eg =
         record {
-          keeps = subst (Keeps h begun) (sym kept) (keeps-start h p adds delta st (A .good) inside idle-now room-now k (L .keeps));
-          total = subst (Total begun) (sym kept) (total-start h p adds delta st (A .good) k (L .total) (kindOf adds) (countBelow (processes h) (busy (begun .process))));
+          shown = upd (L .shown) (st .operations) 0;
+          keeps = subst (Keeps h begun _) (sym kept) (keeps-start h p adds delta st (A .good) inside idle-now room-now (L .shown) k (L .keeps));
+          total = subst (Total begun) (sym kept) (total-start h p adds delta st (A .good) k (L .total) (kindOf adds));
+          held = held-start h p adds delta st (A .good) inside idle-now room-now (L .held);
+          most = subst (Greatest h begun _) (sym (eg ∙ ap (λ (n : ℕ). raised p n greatest) count-now)) (greatest-start h p adds delta st (A .good) inside idle-now room-now (L .held) (L .shown) greatest (L .most));
         }
       where
-        count-now : contention ≡ countBelow (processes h) (busy (begun .process))
+        count-now : count ≡ busyCount h (begun .process)
         count-now =
             ec ∙ ap (countBelow 64) set-now
             ∙ count-beyond (2 ^ h) 64 _ (pow-mono (A .good .high)) (λ q b. not-busy (begun .process) q (good-start h p adds delta st (A .good) inside idle-now room-now .beyond q b))
 
-        kept : k′ ≡ keptStart (st .operations) p (kindOf adds) (countBelow (processes h) (busy (begun .process))) k
-        kept = ek ∙ ap₂ (λ (i c : ℕ). keptStart i p (kindOf adds) c k) (A .operations) count-now
+        kept : k′ ≡ keptStart (st .operations) p (kindOf adds) k
+        kept = ek ∙ ap (λ (i : ℕ). keptStart i p (kindOf adds) k) (A .operations)

@@ -21,6 +21,8 @@ use Rattle.ledger.specs.Kept.{Kept, keptStart}
 use Rattle.ledger.proofs.Good.{good-initial}
 use Rattle.ledger.proofs.Keeps.{keeps-initial}
 use Rattle.ledger.proofs.Total.{total-initial}
+use Rattle.ledger.proofs.Held.{held-initial}
+use Rattle.contention.proofs.Greatest.{greatest-initial}
 use Rattle.keeping.specs.Keeping.{keptOf}
 use Rattle.engine.proofs.Agrees.{Agrees, procsOf}
 use Rattle.engine.proofs.Runs.{RunsKept, runs-kept-begin}
@@ -66,7 +68,7 @@ module _ (s : List ℕ) (h : ℕ) (a : Record) (set₀ : ℕ) (low : 1 ≤ h) (h
         started = omega arith;
       }
 
-  module _ (asked : Bool) (read : List (List ℕ)) (queue turns rows : List ℕ) (c w : ℕ) where
+  module _ (asked : Bool) (read : List (List ℕ)) (queue turns rows : List ℕ) (greatest : ℕ → ℕ) (c w : ℕ) where
     abbrev nothing-kept : Kept
     nothing-kept = keptOf (replicate c (replicate w 0)) (replicate w 0) read queue turns rows (record { waiting = 0; rank = 0 })
 
@@ -83,16 +85,22 @@ module _ (s : List ℕ) (h : ℕ) (a : Record) (set₀ : ℕ) (low : 1 ≤ h) (h
     unfolding keptOf
     none-listed = refl
 
-    pub begins-kept : RunsKept s h 6 (replicate v 0) (replicate l 0) (replicate n a) set₀ 0 asked nothing-kept
+    pub begins-kept : RunsKept s h 6 (replicate v 0) (replicate l 0) (replicate n a) set₀ 0 asked nothing-kept greatest
     begins-kept =
-        runs-kept-begin s h _ _ _ set₀ asked _ enough agreed
-        (record { keeps = keeps-initial h nothing-kept no-counts no-queue none-listed; total = total-initial nothing-kept no-queue none-listed })
+        runs-kept-begin s h _ _ _ set₀ asked _ greatest enough agreed
+        (record {
+          shown = λ i. 0;
+          keeps = keeps-initial h (λ i. 0) nothing-kept no-counts no-queue none-listed;
+          total = total-initial nothing-kept no-queue none-listed;
+          held = held-initial h;
+          most = greatest-initial h (λ i. 0) greatest;
+        })
 
 -- ---- what a turn leaves
 
-pub kept-started : (counts : List (List ℕ)) (written : List ℕ) (read : List (List ℕ)) (queue turns rows rows′ : List ℕ) (l : Listed) (m p : ℕ) (adds : Bool) (count : ℕ)
-    → asFun rows′ ≡ withRow (asFun rows) m (freshNumbers p (kindOf adds) count)
-    → keptOf counts written read queue turns rows′ l ≡ keptStart m p (kindOf adds) count (keptOf counts written read queue turns rows l)
+pub kept-started : (counts : List (List ℕ)) (written : List ℕ) (read : List (List ℕ)) (queue turns rows rows′ : List ℕ) (l : Listed) (m p : ℕ) (adds : Bool)
+    → asFun rows′ ≡ withRow (asFun rows) m (freshNumbers p (kindOf adds))
+    → keptOf counts written read queue turns rows′ l ≡ keptStart m p (kindOf adds) (keptOf counts written read queue turns rows l)
 unfolding keptOf keptStart
-kept-started counts written read queue turns rows rows′ l m p adds count f =
+kept-started counts written read queue turns rows rows′ l m p adds f =
     ap (λ (g : ℕ → ℕ). record { counts = countsOf counts written read; queue = queueOf (asFun queue) (asFun turns) (l .waiting); listed = l .rank; rows = g }) f

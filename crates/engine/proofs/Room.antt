@@ -22,15 +22,17 @@ use Rattle.machine.specs.Arrays.{processOf, idleRecord}
 use Rattle.machine.specs.Nexts.{lastStep}
 use Rattle.machine.specs.declared.Process.{Process as Record}
 use Rattle.counts.specs.Counts.{countsOf, levels}
-use Rattle.rows.specs.Rows.{head, rowNumbers, RoomToStep}
+use Rattle.rows.specs.Rows.{head, rowNumbers, RoomToStep, processBy, RoomToClose}
 use Rattle.listing.specs.Queue.{queueOf, CanList}
 use Rattle.listing.specs.declared.Listed.{Listed}
 use Rattle.listing.proofs.Laws.{All, none, more, length-queueOf, operations-all}
 use Rattle.ledger.specs.Kept.{Kept}
+use Rattle.ledger.proofs.Good.{Good}
 use Rattle.ledger.proofs.Did.{did, did-leaf}
 use Rattle.ledger.proofs.Kept.{mem-keep}
 use Rattle.ledger.proofs.Waiters.{waiter-writes}
 use Rattle.ledger.proofs.Total.{acts, size, total-few, not-acted}
+use Rattle.contention.proofs.Greatest.{shown-small}
 use Rattle.keeping.specs.Keeping.{keptOf, CanKeep}
 use Rattle.engine.specs.Ends.{RoomFor}
 use Rattle.engine.proofs.Agrees.{Agrees, Ledger, stepping, can-step}
@@ -61,6 +63,10 @@ count-less k p s b e =
     or-none true = refl
     or-none false = refl
 
+finished-small : (t : Bool) → cond t 1 0 ≤ 1
+finished-small true = omega arith
+finished-small false = omega arith
+
 last-small : (h : ℕ) (adds : Bool) → h ≤ 6 → lastStep h adds ≤ 50
 unfolding lastStep
 last-small h true b = omega arith
@@ -70,9 +76,9 @@ leaf-count : (counts read : List (List ℕ)) (writes : List ℕ) (h p : ℕ) (es
 unfolding countsOf levels countIn
 leaf-count counts read writes h p es e = e
 
-module _ (s : List ℕ) (h at : ℕ) (st : State) (vals links : List ℕ) (ps : List Record) (set₀ m : ℕ) (counts : List (List ℕ)) (writes : List ℕ) (read : List (List ℕ)) (queue turns rows : List ℕ) (l : Listed)
-    (A : Agrees h at st vals links ps set₀ m) (L : Ledger h st (keptOf counts writes read queue turns rows l)) (p : ℕ) (inside : p < 2 ^ h) (acting : isIn set₀ p ≡ true) (within : at ≤ length s)
-    (short : length s ≤ 65536) (room : RoomFor s h read queue turns rows) where
+module _ (s : List ℕ) (h at : ℕ) (st : State) (vals links : List ℕ) (ps : List Record) (set₀ m : ℕ) (counts : List (List ℕ)) (writes : List ℕ) (read : List (List ℕ)) (queue turns rows greatest : List ℕ) (l : Listed)
+    (A : Agrees h at st vals links ps set₀ m) (L : Ledger h st (keptOf counts writes read queue turns rows l) (asFun greatest)) (p : ℕ) (inside : p < 2 ^ h) (acting : isIn set₀ p ≡ true) (within : at ≤ length s)
+    (short : length s ≤ 65536) (room : RoomFor s h read queue turns rows) (all : 64 ≤ length greatest) where
   abbrev k : Kept
   k = keptOf counts writes read queue turns rows l
 
@@ -150,29 +156,26 @@ module _ (s : List ℕ) (h at : ℕ) (st : State) (vals links : List ℕ) (ps : 
       started : o < st .operations
       started = A .good .owns p (stepping h at st vals links ps set₀ m A p inside acting .acts)
 
-      first-number : asFun rows (5 * o) ≡ st .row o .process * 2 ^ 24 + st .row o .kind * 2 ^ 16 + cond (st .row o .finished) 1 0 * 2 ^ 8 + st .row o .contention
+      first-number : asFun rows (5 * o) ≡ st .row o .process * 2 ^ 24 + st .row o .kind * 2 ^ 16 + cond (st .row o .finished) 1 0 * 2 ^ 8 + L .shown o
       first-number = ap (asFun rows) (sym (add-zero (5 * o))) ∙ L .keeps .rows o 0 started (omega arith)
-
-      one-small : (t : Bool) → cond t 1 0 ≤ 1
-      one-small true = omega arith
-      one-small false = omega arith
 
       at-row : RoomToStep (asFun rows) o
       at-row =
           record {
             row = omega (arith, started, A .good .few);
-            head = omega (arith, first-number, one-small (st .row o .finished), A .good .owners o, A .good .fits o .kind, A .good .fits o .contention);
+            head = omega (arith, first-number, finished-small (st .row o .finished), A .good .owners o, A .good .fits o .kind, shown-small h st (L .shown) (asFun greatest) (A .good) (L .most) o started);
             steps = omega (arith, L .keeps .rows o 1 started (omega arith), A .good .steps o, A .place, within, short);
             seconds = omega (arith, L .keeps .rows o 4 started (omega arith), A .good .seconds o, A .place, within, short);
           }
 
-  pub can-keep : CanKeep h p (getD ps p idleRecord) writes read queue turns rows l
+  pub can-keep : CanKeep h p (getD ps p idleRecord) writes read queue turns rows greatest l
   can-keep =
       record {
         low = A .good .low;
         high = A .good .high;
         process = omega (arith, inside, pow-mono (A .good .high));
         reader = omega (arith, inside, room .readers);
+        most = omega (arith, inside, pow-mono (A .good .high));
         operation = omega (arith, its-operation, A .good .owns p (stepping h at st vals links ps set₀ m A p inside acting .acts), places);
         step = omega (arith, can-step h at st vals links ps set₀ m A p inside acting .last, last-small h (getD ps p idleRecord .adds) (A .good .high));
         written = room-to-write;
@@ -182,14 +185,28 @@ module _ (s : List ℕ) (h at : ℕ) (st : State) (vals links : List ℕ) (ps : 
         row = room-in-row;
       }
 
+-- at the end: each row is of a process of 64, and has room for a contention
+module _ (h : ℕ) (st : State) (counts : List (List ℕ)) (writes : List ℕ) (read : List (List ℕ)) (queue turns rows : List ℕ) (l : Listed) (greatest : ℕ → ℕ) (g : Good h st)
+    (L : Ledger h st (keptOf counts writes read queue turns rows l) greatest) where
+  head-small : (i : ℕ) → i < st .operations → asFun rows (5 * i) < 64 * 2 ^ 24
+  unfolding keptOf rowNumbers head one
+  head-small i b =
+      let first = ap (asFun rows) (sym (add-zero (5 * i))) ∙ L .keeps .rows i 0 b (omega arith) in
+      omega (arith, first, finished-small (st .row i .finished), g .owners i, g .fits i .kind, shown-small h st (L .shown) greatest g (L .most) i b)
+
+  pub can-close : (m size : ℕ) → m ≡ st .operations → 64 ≤ size → RoomToClose (asFun rows) m size
+  unfolding processBy
+  can-close m size same all = record { process = λ i b. omega (arith, head-small i (omega arith)); head = λ i b. omega (arith, head-small i (omega arith)) }
+
 -- the lent arrays keep their lengths
-pub record Same (read₀ read : List (List ℕ)) (queue₀ queue turns₀ turns rows₀ rows : List ℕ) : Type 0 where
+pub record Same (read₀ read : List (List ℕ)) (queue₀ queue turns₀ turns rows₀ rows greatest₀ greatest : List ℕ) : Type 0 where
   pub ofRead : length read ≡ length read₀
   pub ofQueue : length queue ≡ length queue₀
   pub ofTurns : length turns ≡ length turns₀
   pub ofRows : length rows ≡ length rows₀
+  pub ofGreatest : length greatest ≡ length greatest₀
 
-pub room-still : (s : List ℕ) (h : ℕ) {read₀ read : List (List ℕ)} {queue₀ queue turns₀ turns rows₀ rows : List ℕ} → Same read₀ read queue₀ queue turns₀ turns rows₀ rows
+pub room-still : (s : List ℕ) (h : ℕ) {read₀ read : List (List ℕ)} {queue₀ queue turns₀ turns rows₀ rows greatest₀ greatest : List ℕ} → Same read₀ read queue₀ queue turns₀ turns rows₀ rows greatest₀ greatest
     → RoomFor s h read₀ queue₀ turns₀ rows₀ → RoomFor s h read queue turns rows
 room-still s h same room =
     record {

@@ -1,5 +1,5 @@
 -- The loops' invariant: the arrays agree with a state from which the rest of the run is the whole run; report's has the ledger besides.
-use Prim.Native.Nat.{ℕ, zero, suc, _+_, _^_, _≤_, _<_}
+use Prim.Native.Nat.{ℕ, zero, suc, _+_, _*_, _^_, _≤_, _<_}
 use native.Mathlib.Omega.{arith}
 use mathlib.Core.Path.{_≡_, refl, sym, ap, ap₂, _∙_, subst, subst⁻¹}
 use mathlib.Core.Bool.{Bool, true, false}
@@ -16,6 +16,8 @@ use Rattle.arrays.specs.Arrays.{asFun}
 use Rattle.meaning.specs.Layout.{end, broken, event, follow, recordsFrom, recordsOf}
 use Rattle.meaning.specs.Tree.{root}
 use Rattle.meaning.specs.Steps.{Memory}
+use Rattle.meaning.specs.Contention.{contention}
+use Rattle.meaning.specs.TakenIn.{rank}
 use Rattle.meaning.specs.Run.{State, initial, kindOf, start, takeStep, takeEvent, recordRefusal, processOf as processIn, isStart, Outcome, refused, accepted, unless, run}
 use Rattle.machine.specs.Arrays.{memoryOf, processOf, idleRecord, startedRecord}
 use Rattle.machine.specs.Nexts.{Nexts, CanStep}
@@ -23,8 +25,12 @@ use Rattle.machine.specs.declared.Process.{Process as Record}
 use Rattle.listing.specs.declared.Listed.{Listed}
 use Rattle.rules.specs.Rules.{refusalBy}
 use Rattle.rules.proofs.Laws.{Taken, refusal-passes, refusal-is}
-use Rattle.ledger.proofs.Good.{false-true}
+use Rattle.rows.specs.Rows.{rowNumbers, closed}
+use Rattle.rows.proofs.Laws.{closed-rows}
+use Rattle.ledger.proofs.Good.{Good, false-true}
 use Rattle.ledger.specs.Kept.{Kept, keptStep, keptStart}
+use Rattle.contention.specs.Greatest.{raised}
+use Rattle.contention.proofs.Greatest.{greatest-closed, shown-small}
 use Rattle.keeping.specs.Keeping.{keptOf}
 use Rattle.engine.specs.Ends.{addsOf, deltaOf, Ends, refuses, accepts, Refuses}
 use Rattle.engine.specs.declared.Ended.{Ended}
@@ -39,9 +45,9 @@ pub record Runs (s : List ℕ) (h at : ℕ) (vals links : List ℕ) (ps : List R
   pub within : at ≤ length s
   pub rest : run h st (recordsFrom most s at) ≡ run h initial (recordsOf s)
 
-pub record RunsKept (s : List ℕ) (h at : ℕ) (vals links : List ℕ) (ps : List Record) (set₀ m : ℕ) (asked : Bool) (k : Kept) : Type 0 where
+pub record RunsKept (s : List ℕ) (h at : ℕ) (vals links : List ℕ) (ps : List Record) (set₀ m : ℕ) (asked : Bool) (k : Kept) (greatest : ℕ → ℕ) : Type 0 where
   pub runs : Runs s h at vals links ps set₀ m
-  pub ledger : asked ≡ true → Ledger h (runs .st) k
+  pub ledger : asked ≡ true → Ledger h (runs .st) k greatest
 
 -- ---- the records from a place, by what is cut there
 
@@ -175,11 +181,11 @@ module _ (s : List ℕ) (h at : ℕ) (vals links : List ℕ) (ps : List Record) 
           goes-on p next false g vals′ links′ ps′ set′ m (takeStep h p (R .st)) (take-step h (R .st) (g .event) (g .kind) ∙ ap (λ (q : ℕ). takeStep h q (R .st)) (sym (g .whose)))
           (agrees-step h at (R .st) vals links ps set₀ m (R .agrees) p (inside p next false g) (acting p next false g refl) vals′ links′ r n next ps′ set′ (g .stands .further) ep es)
 
-      pub runs-kept-step : (asked : Bool) (k k′ : Kept) → (asked ≡ true → Ledger h (R .st) k)
-          → (asked ≡ true → k′ ≡ keptStep h p (processOf (getD ps p idleRecord)) (processOf r) (r .stored) k) → RunsKept s h next vals′ links′ ps′ set′ m asked k′
+      pub runs-kept-step : (asked : Bool) (k k′ : Kept) (greatest : ℕ → ℕ) → (asked ≡ true → Ledger h (R .st) k greatest)
+          → (asked ≡ true → k′ ≡ keptStep h p (processOf (getD ps p idleRecord)) (processOf r) (r .stored) (greatest p) k) → RunsKept s h next vals′ links′ ps′ set′ m asked k′ greatest
       unfolding runs-step goes-on
-      runs-kept-step asked k k′ L ek =
-          record { runs = runs-step; ledger = λ a. ledger-step h at (R .st) vals links ps set₀ m (R .agrees) p (inside p next false g) (acting p next false g refl) vals′ links′ r n k k′ (L a) (ek a) }
+      runs-kept-step asked k k′ greatest L ek =
+          record { runs = runs-step; ledger = λ a. ledger-step h at (R .st) vals links ps set₀ m (R .agrees) p (inside p next false g) (acting p next false g refl) vals′ links′ r n k k′ greatest (L a) (ek a) }
 
   module _ (p : ℕ) (adds : Bool) (delta next : ℕ) (b : Begins s h set₀ m at p adds delta next) where
     pub room : m < 1024
@@ -193,13 +199,13 @@ module _ (s : List ℕ) (h at : ℕ) (vals links : List ℕ) (ps : List Record) 
           ∙ sym (λ i. start h (b .goes .whose i) (b .kind i) (b .amount i) (R .st)))
           (subst⁻¹ (Agrees h next (start h p adds delta (R .st)) vals links ps′ set′) one-more (agrees-start h at (R .st) vals links ps set₀ m (R .agrees) p (inside p next true (b .goes)) (free p next true (b .goes) refl) room adds delta ps′ set′ ep es next (b .goes .stands .further)))
 
-      pub runs-kept-start : (asked : Bool) (contention : ℕ) (k k′ : Kept) → (asked ≡ true → Ledger h (R .st) k) → contention ≡ countBelow 64 (isIn set′)
-          → (asked ≡ true → k′ ≡ keptStart m p (kindOf adds) contention k) → RunsKept s h next vals links ps′ set′ m′ asked k′
+      pub runs-kept-start : (asked : Bool) (k k′ : Kept) (greatest greatest′ : ℕ → ℕ) → (asked ≡ true → Ledger h (R .st) k greatest)
+          → (asked ≡ true → (k′ ≡ keptStart m p (kindOf adds) k) × (greatest′ ≡ raised p (countBelow 64 (isIn set′)) greatest)) → RunsKept s h next vals links ps′ set′ m′ asked k′ greatest′
       unfolding runs-start goes-on
-      runs-kept-start asked contention k k′ L ec ek =
+      runs-kept-start asked k k′ greatest greatest′ L ek =
           record {
             runs = runs-start;
-            ledger = λ a. ledger-start h at (R .st) vals links ps set₀ m (R .agrees) p (inside p next true (b .goes)) (free p next true (b .goes) refl) room adds delta ps′ set′ ep es contention k k′ (L a) ec (ek a);
+            ledger = λ a. ledger-start h at (R .st) vals links ps set₀ m (R .agrees) p (inside p next true (b .goes)) (free p next true (b .goes) refl) room adds delta ps′ set′ ep es _ k k′ greatest greatest′ (L a) refl (ek a .0) (ek a .1);
           }
 
 -- ---- the beginning
@@ -208,21 +214,30 @@ pub runs-begin : (s : List ℕ) (h : ℕ) (vals links : List ℕ) (ps : List Rec
 unfolding recordsOf
 runs-begin s h vals links ps set₀ b A = record { st = initial; most = length s; agrees = A; enough = omega arith; within = b; rest = refl }
 
-pub runs-kept-begin : (s : List ℕ) (h : ℕ) (vals links : List ℕ) (ps : List Record) (set₀ : ℕ) (asked : Bool) (k : Kept) → 6 ≤ length s → Agrees h 6 initial vals links ps set₀ 0
-    → Ledger h initial k → RunsKept s h 6 vals links ps set₀ 0 asked k
+pub runs-kept-begin : (s : List ℕ) (h : ℕ) (vals links : List ℕ) (ps : List Record) (set₀ : ℕ) (asked : Bool) (k : Kept) (greatest : ℕ → ℕ) → 6 ≤ length s → Agrees h 6 initial vals links ps set₀ 0
+    → Ledger h initial k greatest → RunsKept s h 6 vals links ps set₀ 0 asked k greatest
 unfolding runs-begin
-runs-kept-begin s h vals links ps set₀ asked k b A L = record { runs = runs-begin s h vals links ps set₀ b A; ledger = λ a. L }
+runs-kept-begin s h vals links ps set₀ asked k greatest b A L = record { runs = runs-begin s h vals links ps set₀ b A; ledger = λ a. L }
 
 -- ---- the ends
 
+-- the rows closed have every operation's contention
+closed-ends : (h : ℕ) (st : State) (k : Kept) (greatest : ℕ → ℕ) → Good h st → Ledger h st k greatest → (i j : ℕ) → i < st .operations → j < 5
+    → closed greatest (st .operations) (k .rows) (5 * i + j) ≡ getD (rowNumbers (st .row i) (contention (st .row i) (st .history)) (rank h (st .history) i)) j 0
+closed-ends h st k greatest g L i j b c =
+    closed-rows greatest (st .operations) (k .rows) (st .row) (L .shown) (rank h (st .history)) (L .keeps .rows) (λ x y. g .fits x) (shown-small h st (L .shown) greatest g (L .most)) (L .most .unfinished) i j b c
+    ∙ ap (λ (n : ℕ). getD (rowNumbers (st .row i) n (rank h (st .history) i)) j 0) (greatest-closed h st (L .held) (L .shown) greatest (L .most) i b)
+
 pub ends-accepted : (s : List ℕ) (h at : ℕ) (vals links : List ℕ) (ps : List Record) (set₀ m : ℕ) (asked : Bool) (counts : List (List ℕ)) (writes : List ℕ) (read : List (List ℕ))
-    (queue turns rows : List ℕ) (l : Listed) → RunsKept s h at vals links ps set₀ m asked (keptOf counts writes read queue turns rows l) → cutAt s at ≡ End → (r : Ended) → r .number ≡ 0
-    → r .place ≡ 0 → r .operations ≡ m → r .counter ≡ getD vals 1 0 → Ends asked h (length s) (asFun rows) r (run h initial (recordsOf s))
+    (queue turns rows : List ℕ) (l : Listed) (greatest : ℕ → ℕ) (rows′ : ℕ → ℕ) → RunsKept s h at vals links ps set₀ m asked (keptOf counts writes read queue turns rows l) greatest → cutAt s at ≡ End
+    → (asked ≡ true → rows′ ≡ closed greatest m (asFun rows)) → (r : Ended) → r .number ≡ 0
+    → r .place ≡ 0 → r .operations ≡ m → r .counter ≡ getD vals 1 0 → Ends asked h (length s) rows′ r (run h initial (recordsOf s))
 unfolding keptOf memoryOf asFun root
-ends-accepted s h at vals links ps set₀ m asked counts writes read queue turns rows l K e r a b c d =
+ends-accepted s h at vals links ps set₀ m asked counts writes read queue turns rows l greatest rows′ K e shut r a b c d =
     let R = K .runs in
-    subst (Ends asked h (length s) (asFun rows) r) (sym (runs-end s h at vals links ps set₀ m R e))
-    (accepts a b (c ∙ R .agrees .operations) (d ∙ ap (λ (x : Memory). x .value 1) (R .agrees .memory)) (R .agrees .good .few) (omega (arith, R .agrees .operations, R .agrees .started, R .within)) (λ t. K .ledger t .keeps .rows))
+    subst (Ends asked h (length s) rows′ r) (sym (runs-end s h at vals links ps set₀ m R e))
+    (accepts a b (c ∙ R .agrees .operations) (d ∙ ap (λ (x : Memory). x .value 1) (R .agrees .memory)) (R .agrees .good .few) (omega (arith, R .agrees .operations, R .agrees .started, R .within))
+    (λ t i j x y. ap (λ (f : ℕ → ℕ). f (5 * i + j)) (shut t ∙ ap (λ (n : ℕ). closed greatest n (asFun rows)) (R .agrees .operations)) ∙ closed-ends h (R .st) _ greatest (R .agrees .good) (K .ledger t) i j x y))
 
 pub ends-refused : (asked : Bool) (h size : ℕ) (rows : ℕ → ℕ) (o : Outcome) (number place : ℕ) (r : Ended) → (o ≡ refused (record { number = number; place = place })) × (1 ≤ number)
     → Refuses number place r → Ends asked h size rows r o

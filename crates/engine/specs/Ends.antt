@@ -9,6 +9,7 @@ use Rattle.recording.specs.declared.Event.{Event}
 use Rattle.recording.specs.declared.Event.the-variants.{Step, Read, Add}
 use Rattle.meaning.specs.Tree.{root}
 use Rattle.meaning.specs.Run.{State, Outcome, refused, accepted}
+use Rattle.meaning.specs.Contention.{contention}
 use Rattle.meaning.specs.TakenIn.{rank}
 use Rattle.listing.specs.Queue.{Sizes}
 use Rattle.rows.specs.Rows.{rowNumbers}
@@ -36,7 +37,7 @@ pub record Refuses (number place : ℕ) (r : Ended) : Type 0 where
 pub data Ends (asked : Bool) (h size : ℕ) (rows : ℕ → ℕ) (r : Ended) : Outcome → Type 0 where
   refuses : {a : Answer} → Refuses (a .number) (a .place) r → 1 ≤ a .number → Ends asked h size rows r (refused a)
   accepts : {st : State} → r .number ≡ 0 → r .place ≡ 0 → r .operations ≡ st .operations → r .counter ≡ st .memory .value root → st .operations ≤ 1024 → 3 * st .operations + 6 ≤ size
-      → (asked ≡ true → (i j : ℕ) → i < st .operations → j < 5 → rows (5 * i + j) ≡ getD (rowNumbers (st .row i) (rank h (st .history) i)) j 0) → Ends asked h size rows r (accepted st)
+      → (asked ≡ true → (i j : ℕ) → i < st .operations → j < 5 → rows (5 * i + j) ≡ getD (rowNumbers (st .row i) (contention (st .row i) (st .history)) (rank h (st .history) i)) j 0) → Ends asked h size rows r (accepted st)
 
 -- Arrays for what a report of s keeps: a row of read counts for each process; a queue, turns and rows for every operation that s has bytes for.
 pub record RoomFor (s : List ℕ) (h : ℕ) (read : List (List ℕ)) (queue turns rows : List ℕ) : Type 0 where

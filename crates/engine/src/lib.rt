@@ -12,7 +12,8 @@ ghost use Rattle.sets.specs.Processes.{countBelow, isIn};
 ghost use Rattle.arrays.specs.Arrays.{asFun};
 ghost use Rattle.meaning.specs.Layout.{recordsOf};
 ghost use Rattle.meaning.specs.Run.{initial, kindOf, run as runOf};
-ghost use Rattle.rows.specs.Rows.{withRow, freshNumbers};
+ghost use Rattle.rows.specs.Rows.{withRow, freshNumbers, RoomToClose, closed};
+ghost use Rattle.contention.specs.Greatest.{raised};
 ghost use Rattle.engine.specs.Ends.{addsOf, deltaOf, Refuses, Ends, RoomFor};
 ghost use Rattle.engine.specs.Tries.{Tries, busyThen};
 
@@ -94,14 +95,33 @@ fn busy_after(busy: u64, p: usize, step: u32) -> u64
     if step == 0 { sets::cut(busy, p) } else { busy }
 }
 
-// The row of operation m, with the contention right after its start, where a report is asked for.
-fn start_row(asked: bool, rows: &mut [u32], m: u32, p: usize, adds: bool, busy: u64)
-    requires { ⌜ (m < 1024) × (p < 64) × (asked ≡ true → 5 * m + 5 ≤ length (now rows)) ⌝ }
-    ensures { λ r. ⌜ (asked ≡ true → asFun (now (rows .exit)) ≡ withRow (asFun (now (rows .entry))) m (freshNumbers p (kindOf adds) (countBelow 64 (isIn busy)))) ⌝ }
+// The row of operation m, and the greatest counts raised by those busy right after its start, where a report is asked for.
+fn start_row(
+    asked: bool,
+    rows: &mut [u32],
+    greatest: &mut [u8],
+    m: u32,
+    p: usize,
+    adds: bool,
+    busy: u64,
+)
+    requires { ⌜ (m < 1024) × (p < 64) × (asked ≡ true → (5 * m + 5 ≤ length (now rows)) × (64 ≤ length (now greatest))) ⌝ }
+    ensures { λ r. ⌜ (asked ≡ true → (asFun (now (rows .exit)) ≡ withRow (asFun (now (rows .entry))) m (freshNumbers p (kindOf adds))) × (asFun (now (greatest .exit)) ≡ raised p (countBelow 64 (isIn busy)) (asFun (now (greatest .entry))))) ⌝ }
 {
     if asked {
         let kind: u8 = if adds { 3 } else { 2 };
-        rows::start_row(rows, m as usize, p as u8, kind, sets::count(busy) as u8);
+        rows::start_row(rows, m as usize, p as u8, kind);
+        contention::raise(greatest, p, sets::count(busy) as u8);
+    }
+}
+
+// The rows of the operations that are unfinished at the end, where a report is asked for.
+fn close_rows(asked: bool, rows: &mut [u32], greatest: &[u8], m: u32)
+    requires { ⌜ (asked ≡ true → (m ≤ 1024) × (5 * m ≤ length (now rows)) × RoomToClose (asFun (now rows)) m (length (now greatest))) ⌝ }
+    ensures { λ r. ⌜ (asked ≡ true → asFun (now (rows .exit)) ≡ closed (asFun (now (greatest .entry))) m (asFun (now (rows .entry)))) ⌝ }
+{
+    if asked {
+        rows::close(rows, m as usize, greatest);
     }
 }
 
@@ -114,8 +134,9 @@ pub fn run(
     queue: &mut [u16],
     turns: &mut [u16],
     rows: &mut [u32],
+    greatest: &mut [u8],
 ) -> Ended
-    requires { ⌜ (1 ≤ h) × (h ≤ 6) × (6 ≤ length (now s)) × (length (now s) ≤ 65536) × (asked ≡ true → RoomFor (now s) h (now read) (now queue) (now turns) (now rows)) ⌝ }
+    requires { ⌜ (1 ≤ h) × (h ≤ 6) × (6 ≤ length (now s)) × (length (now s) ≤ 65536) × (asked ≡ true → RoomFor (now s) h (now read) (now queue) (now turns) (now rows) × (64 ≤ length (now greatest))) ⌝ }
     ensures { λ r. ⌜ Ends asked h (length (now (s .entry))) (asFun (now (rows .exit))) r (runOf h initial (recordsOf (now (s .entry)))) ⌝ }
 {
     let mut vals = [0u32; 128];
@@ -134,6 +155,7 @@ pub fn run(
     loop {
         match try_at(s, h, busy, m, at) {
             Tried::End => {
+                close_rows(asked, rows, greatest, m);
                 let counter = vals[1];
                 return Ended {
                     number: 0,
@@ -148,7 +170,7 @@ pub fn run(
             Tried::Start(p, adds, delta, next) => {
                 procs[p] = Process::started(m as u16, adds, delta);
                 busy = sets::put(busy, p);
-                start_row(asked, rows, m, p, adds, busy);
+                start_row(asked, rows, greatest, m, p, adds, busy);
                 m = m + 1;
                 at = next;
             }
@@ -163,6 +185,7 @@ pub fn run(
                     queue,
                     turns,
                     rows,
+                    greatest,
                     h,
                     p,
                     r,

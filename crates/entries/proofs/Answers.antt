@@ -14,7 +14,7 @@ use Rattle.rows.specs.Rows.{laidReport}
 use Rattle.rows.proofs.Laws.{report-bytes}
 use Rattle.engine.specs.Ends.{Ends, refuses, accepts}
 use Rattle.engine.specs.declared.Ended.{Ended}
-use Rattle.engine.proofs.Accepted.{accepted-fits}
+use Rattle.engine.proofs.Accepted.{accepted-fits, accepted-small}
 use Rattle.entries.specs.Promises.{answerOf, Reports}
 use Rattle.entries.specs.declared.Reply.{Reply}
 
@@ -64,7 +64,7 @@ module _ (s buf : List ℕ) (h size : ℕ) (rows : ℕ → ℕ) (r : Ended) (sam
       let long : leb (9 + 20 * st .operations) (length buf) ≡ true = le-leb (9 + 20 * st .operations) (length buf) (omega arith) in
       reports s buf after _ (accepted st) e (rw long (λ i. record { number = a i; place = b i }))
       (rw long
-      (laid ∙ (λ i. laidReport (c i) (d i) rows buf) ∙ report-bytes h st rows (λ i k x y. g refl i k x y) (λ i x. accepted-fits s st e i) buf ∙ ap (λ (x : ℕ). reportBytes x st ++ drop (9 + 20 * st .operations) buf) same))
+      (laid ∙ (λ i. laidReport (c i) (d i) rows buf) ∙ report-bytes h st rows (λ i k x y. g refl i k x y) (λ i x. accepted-fits s st e i) (λ i x. accepted-small s st e (st .row i)) buf ∙ ap (λ (x : ℕ). reportBytes x st ++ drop (9 + 20 * st .operations) buf) same))
 
 pub few-operations : (h size : ℕ) (rows : ℕ → ℕ) (r : Ended) {o : Outcome} → 6 ≤ size → Ends true h size rows r o → (r .operations ≤ 1024) × (3 * r .operations + 6 ≤ size)
 few-operations h size rows r six (refuses w c) = (omega (arith, w .operations), omega (arith, w .operations))

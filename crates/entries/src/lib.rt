@@ -29,6 +29,7 @@ pub fn check(s: &[u8]) -> Reply
     let mut queue = [0u16; 0];
     let mut turns = [0u16; 0];
     let mut rows = [0u32; 0];
+    let mut greatest = [0u8; 0];
     let last = engine::run(
         s,
         s[5] as u32,
@@ -37,6 +38,7 @@ pub fn check(s: &[u8]) -> Reply
         &mut queue,
         &mut turns,
         &mut rows,
+        &mut greatest,
     );
     Reply {
         number: last.number,
@@ -56,7 +58,17 @@ fn report_in(
     requires { ⌜ (headRefusal (now s) ≡ 0) × RoomFor (now s) (height (now s)) (now read) (now queue) (now turns) (now rows) ⌝ }
     ensures { λ r. ⌜ Reports (now (s .entry)) (now (out .entry)) (now (out .exit)) r ⌝ }
 {
-    let e = engine::run(s, s[5] as u32, true, read, queue, turns, rows);
+    let mut greatest = [0u8; 64];
+    let e = engine::run(
+        s,
+        s[5] as u32,
+        true,
+        read,
+        queue,
+        turns,
+        rows,
+        &mut greatest,
+    );
     let m = e.operations as usize;
     let needed = 9 + 20 * m;
     if e.number == 0 {

@@ -4,6 +4,7 @@ use mathlib.Core.Path.{_≡_, refl, sym, ap, _∙_}
 use mathlib.Core.Bool.{Bool, true, false}
 use mathlib.Core.List.{List}
 use native.Mathlib.Omega.{arith}
+use lib.ListN.{getD}
 use lib.Dec.{eqb}
 use Rattle.meaning.specs.Steps.{Process}
 use Rattle.arrays.specs.Arrays.{asFun}
@@ -16,8 +17,8 @@ use Rattle.placing.proofs.Laws.{kept-is, addition-beside}
 use Rattle.keeping.specs.Keeping.{CanKeep}
 
 -- a step that can be kept can be placed
-pub can-place : {h p : ℕ} {r : Record} {writes : List ℕ} {reads : List (List ℕ)} {waiters turns numbers : List ℕ} {l : Listed}
-    → CanKeep h p r writes reads waiters turns numbers l → CanPlace h p r writes reads waiters turns numbers l
+pub can-place : {h p : ℕ} {r : Record} {writes : List ℕ} {reads : List (List ℕ)} {waiters turns numbers greatest : List ℕ} {l : Listed}
+    → CanKeep h p r writes reads waiters turns numbers greatest l → CanPlace h p r writes reads waiters turns numbers l
 can-place can =
     record {
       low = can .low;
@@ -51,27 +52,27 @@ addition-room counts counts′ read read′ written written′ queue queue′ tu
     let k : Kept = keptOf counts written read queue turns rows listed in
     room-stays (asFun rows′) room (λ j n. ap (λ (x : Kept). x .rows j) e ∙ addition-beside h p r stored k j n)
 
--- one more step in a row
-pub row-steps : (counts read : List (List ℕ)) (written queue turns rows rows′ : List ℕ) (listed : Listed) (i : ℕ) (finished : Bool) (answer : ℕ)
-    (second : Bool) → asFun rows′ ≡ withRow (asFun rows) i (steppedNumbers (asFun rows) i finished answer second)
-    → keptOf counts written read queue turns rows′ listed ≡ rowThen i finished answer second (keptOf counts written read queue turns rows listed)
-unfolding keptOf rowThen
-row-steps counts read written queue turns rows rows′ listed i finished answer second e = kept-is refl refl refl e
+-- one more step in a row, with the greatest count of process p
+pub row-steps : (counts read : List (List ℕ)) (written queue turns rows rows′ greatest : List ℕ) (listed : Listed) (p i : ℕ) (finished : Bool) (answer : ℕ)
+    (second : Bool) → asFun rows′ ≡ withRow (asFun rows) i (steppedNumbers (asFun rows) i finished (getD greatest p 0) answer second)
+    → keptOf counts written read queue turns rows′ listed ≡ rowThen i finished (asFun greatest p) answer second (keptOf counts written read queue turns rows listed)
+unfolding keptOf rowThen asFun
+row-steps counts read written queue turns rows rows′ greatest listed p i finished answer second e = kept-is refl refl refl e
 
 -- ---- a step: its listing, and one more step in the operation's row
 
-module _ (h p : ℕ) (r r′ : Process) (stored : Bool) (k : Kept) where
+module _ (h p : ℕ) (r r′ : Process) (stored : Bool) (contention : ℕ) (k : Kept) where
   pub addition-step : r .adds ≡ true
-      → keptStep h p r r′ stored k ≡ rowThen (r .operation) (eqb (r′ .step) 0) 0 (secondLink (r .step)) (additionPlaced h p r stored k)
+      → keptStep h p r r′ stored contention k ≡ rowThen (r .operation) (eqb (r′ .step) 0) contention 0 (secondLink (r .step)) (additionPlaced h p r stored k)
   unfolding keptStep additionStep additionPlaced
   addition-step e = rw e
 
   pub read-step : r .adds ≡ false
-      → keptStep h p r r′ stored k ≡ rowThen (r .operation) (eqb (r′ .step) 0) (r′ .seen) false (readPlaced (r .operation) k)
+      → keptStep h p r r′ stored contention k ≡ rowThen (r .operation) (eqb (r′ .step) 0) contention (r′ .seen) false (readPlaced (r .operation) k)
   unfolding keptStep readStep readPlaced
   read-step e = rw e
 
 -- whatever the arrays are, what is kept after the step is one
-pub one-outcome : (h p : ℕ) (r r′ : Process) (stored : Bool) (k : Kept) {a b : Kept}
-    → a ≡ keptStep h p r r′ stored k → b ≡ keptStep h p r r′ stored k → a ≡ b
-one-outcome h p r r′ stored k x y = x ∙ sym y
+pub one-outcome : (h p : ℕ) (r r′ : Process) (stored : Bool) (contention : ℕ) (k : Kept) {a b : Kept}
+    → a ≡ keptStep h p r r′ stored contention k → b ≡ keptStep h p r r′ stored contention k → a ≡ b
+one-outcome h p r r′ stored contention k x y = x ∙ sym y

@@ -9,12 +9,10 @@ use mathlib.Core.List.{List, _∷_}
 use lib.ListN.{length}
 use lib.Pow.{pow-mono}
 use borrow.Author.Tests.{ne-eqb}
-use Rattle.sets.proofs.Laws.{count-le}
 use Rattle.arrays.proofs.Laws.{upd-cases}
-use Rattle.meaning.specs.Tree.{processes}
 use Rattle.meaning.specs.Access.{Access, starts, isLeafWrite, isRootRead, isSecondLink}
-use Rattle.meaning.specs.Steps.{Process, idle as idleProcess, Effect, effect, accessOf, nextRecord, atStep}
-use Rattle.meaning.specs.Run.{Entry, Row, State, blank, initial, busy, started, kindOf, newRow, start, rowAfter, takeStep}
+use Rattle.meaning.specs.Steps.{upd, Process, idle as idleProcess, Effect, effect, accessOf, nextRecord, atStep}
+use Rattle.meaning.specs.Run.{Entry, Row, State, blank, initial, busyCount, started, kindOf, newRow, start, rowAfter, takeStep}
 use Rattle.taken.proofs.Agree.{Once, none, more}
 use Rattle.rows.proofs.Laws.{RowFits}
 use Rattle.machine.specs.Nexts.{lastStep}
@@ -70,7 +68,7 @@ good-initial h low high =
       unread = λ p b. refl;
       kinds = λ i e. refl;
       once = none;
-      fits = λ i. record { process = omega arith; kind = omega arith; contention = omega arith };
+      fits = λ i. record { process = omega arith; kind = omega arith };
       owners = λ i. omega arith;
       steps = λ i. omega arith;
       seconds = λ i. omega arith;
@@ -78,12 +76,26 @@ good-initial h low high =
 
 -- ---- a start record
 
+-- what it adds to the history
+abbrev pub beginsBy : ℕ → ℕ → Bool → ℕ → State → Entry
+beginsBy h p adds delta st =
+    record { process = p; operation = st .operations; access = starts; stored = false; busy = busyCount h (upd (st .process) p (started (st .operations) adds delta)) }
+
+module _ (h p : ℕ) (adds : Bool) (delta : ℕ) (st : State) where
+  -- the new row, and the others
+  pub row-cases : (i : ℕ) (P : Row → Type 0) → (i ≡ st .operations → P (newRow p adds delta (length (st .history)))) → ((i ≡ st .operations → ⊥) → P (st .row i)) → P (start h p adds delta st .row i)
+  unfolding start
+  row-cases i P now before = upd-cases (st .row) (st .operations) _ P i now before
+
+  -- the record of process q after the start
+  pub process-cases : (q : ℕ) (P : Process → Type 0) → (q ≡ p → P (started (st .operations) adds delta)) → ((q ≡ p → ⊥) → P (st .process q)) → P (start h p adds delta st .process q)
+  unfolding start
+  process-cases q P now before = upd-cases (st .process) p _ P q now before
+
 module _ (h p : ℕ) (adds : Bool) (delta : ℕ) (st : State) (g : Good h st) (inside : p < 2 ^ h) (free : st .process p .step ≡ 0) (room : st .operations < 1024) where
   -- the process's new record, and those of the others
   pub by-process : (P : ℕ → Process → Type 0) → P p (started (st .operations) adds delta) → ((q : ℕ) → (q ≡ p → ⊥) → P q (st .process q)) → (q : ℕ) → P q (start h p adds delta st .process q)
-  unfolding start
-  by-process P new old q =
-      upd-cases (st .process) p (started (st .operations) adds delta) (P q) q (λ e. subst (λ (x : ℕ). P x (started (st .operations) adds delta)) (sym e) new) (old q)
+  by-process P new old q = process-cases h p adds delta st q (P q) (λ e. subst (λ (x : ℕ). P x (started (st .operations) adds delta)) (sym e) new) (old q)
 
   -- the history's new entry is no access
   still : (kind : Access → Bool) → kind starts ≡ false → (i : ℕ) → did kind i (start h p adds delta st .history) ≡ did kind i (st .history)
@@ -98,17 +110,15 @@ module _ (h p : ℕ) (adds : Bool) (delta : ℕ) (st : State) (g : Good h st) (i
       go true e = absurd (omega (arith, g .known kind (st .operations) e))
       go false e = refl
 
-  pub started-row : (i : ℕ) (P : Row → Type 0) → P (newRow h p adds delta (start h p adds delta st .process) (length (st .history))) → ((i ≡ st .operations → ⊥) → P (st .row i)) → P (start h p adds delta st .row i)
-  unfolding start
-  started-row i P now before = upd-cases (st .row) (st .operations) _ P i (λ e. now) before
+  pub started-row : (i : ℕ) (P : Row → Type 0) → P (newRow p adds delta (length (st .history))) → ((i ≡ st .operations → ⊥) → P (st .row i)) → P (start h p adds delta st .row i)
+  started-row i P now before = row-cases h p adds delta st i P (λ e. now) before
 
-  new-row-fits : RowFits (newRow h p adds delta (start h p adds delta st .process) (length (st .history)))
-  unfolding newRow kindOf processes
+  new-row-fits : RowFits (newRow p adds delta (length (st .history)))
+  unfolding newRow kindOf
   new-row-fits =
       record {
         process = omega (arith, pow-mono (g .high));
         kind = small adds;
-        contention = omega (arith, pow-mono (g .high), count-le (2 ^ h) (busy (start h p adds delta st .process)));
       }
     where
       small : (t : Bool) → cond t 3 2 < 256
@@ -169,7 +179,14 @@ recordAfter h p st = nextRecord h p (st .process p) (effectBy h p st)
 
 -- what the step adds to the history
 abbrev pub entryBy : ℕ → ℕ → State → Entry
-entryBy h p st = record { process = p; operation = st .process p .operation; access = accessBy h p st; stored = effectBy h p st .stored }
+entryBy h p st =
+    record {
+      process = p;
+      operation = st .process p .operation;
+      access = accessBy h p st;
+      stored = effectBy h p st .stored;
+      busy = busyCount h (upd (st .process) p (recordAfter h p st));
+    }
 
 pub history-step : (h p : ℕ) (st : State) → takeStep h p st .history ≡ entryBy h p st ∷ st .history
 unfolding takeStep
@@ -308,14 +325,14 @@ module _ (h p : ℕ) (st : State) (s : Stepping h p st) where
         few = s .good .few;
         known = λ kind i e. ⊎-elim (λ d. s .good .known kind i d) (λ d. rw (d .1) (s .good .owns p (s .acts))) (did-cases kind i (entryBy h p st) (st .history) e);
         fresh = by-stepper (λ q r. 1 ≤ r .step → (r .adds ≡ true → r .step ≤ 2) → did isLeafWrite (r .operation) (takeStep h p st .history) ≡ false)
-            (λ b f. rw same-operation (own-fresh turns goes refl b (λ e. f (same-adds ∙ e))))
+            (λ b f. ap (λ (i : ℕ). did isLeafWrite i (takeStep h p st .history)) same-operation ∙ own-fresh turns goes refl b (λ e. f (same-adds ∙ e)))
             (λ q n b f. did-elsewhere isLeafWrite q n b ∙ s .good .fresh q b f);
         unread = by-stepper (λ q r. 1 ≤ r .step → did isRootRead (r .operation) (takeStep h p st .history) ≡ false)
-            (λ b. rw same-operation (own-unread b))
+            (λ b. ap (λ (i : ℕ). did isRootRead i (takeStep h p st .history)) same-operation ∙ own-unread b)
             (λ q n b. did-elsewhere isRootRead q n b ∙ s .good .unread q b);
         kinds = kinds-step;
         once = more (λ e. did-leaf (st .process p .operation) (st .history) ∙ unwritten e) (s .good .once);
-        fits = λ i. stepped-row i RowFits (λ e. let w = s .good .fits (st .process p .operation) in record { process = w .process; kind = w .kind; contention = w .contention }) (λ n. s .good .fits i);
+        fits = λ i. stepped-row i RowFits (λ e. let w = s .good .fits (st .process p .operation) in record { process = w .process; kind = w .kind }) (λ n. s .good .fits i);
         owners = λ i. stepped-row i (λ w. w .process < 64) (λ e. s .good .owners (st .process p .operation)) (λ n. s .good .owners i);
         steps = λ i. stepped-row i (λ w. w .steps ≤ suc (length (st .history))) (λ e. omega (arith, s .good .steps (st .process p .operation))) (λ n. omega (arith, s .good .steps i));
         seconds = λ i. stepped-row i (λ w. w .seconds ≤ suc (length (st .history))) (λ e. omega (arith, s .good .seconds (st .process p .operation), at-most-one (isSecondLink (accessBy h p st)))) (λ n. omega (arith, s .good .seconds i));

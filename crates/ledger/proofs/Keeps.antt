@@ -9,11 +9,10 @@ use mathlib.Core.List.{List, [], _∷_, _++_, append-nil, List·Memᴰ, List·Me
 use lib.ListN.{length, length-map}
 use lib.Dec.{eqb, ltb, leb}
 use borrow.Author.Tests.{eq-eqb, ne-eqb, ltb-true, ltb-false, le-ltb, le-leb, leb-false}
-use Rattle.meaning.specs.Tree.{processes, leafOf, ancestor}
+use Rattle.meaning.specs.Tree.{leafOf, ancestor}
 use Rattle.meaning.specs.Access.{Access, starts, readsRoot, readsLeaf, writesLeaf, links, readsLeft, readsRight, stores, first, second, isLeafWrite, isRootRead, isSecondLink, isStoreAt}
 use Rattle.meaning.specs.Steps.{upd, Memory, Process, effect, onward}
-use Rattle.sets.specs.Processes.{countBelow}
-use Rattle.meaning.specs.Run.{Entry, State, initial, busy, kindOf, newRow, start, takeStep, rowAfter}
+use Rattle.meaning.specs.Run.{Entry, State, initial, kindOf, newRow, start, takeStep, rowAfter}
 use Rattle.meaning.specs.TakenIn.{beforeRead, keep, placed, listed, rank}
 use Rattle.taken.specs.CountIn.{writesBy, countIn, Waiter, waiterOf, waiters}
 use Rattle.taken.proofs.Agree.{Once, written}
@@ -25,20 +24,21 @@ use Rattle.listing.proofs.Laws.{keep-append, Distinct, nothing, another}
 use Rattle.ledger.specs.Kept.{Kept, countsThen, atRoot, secondLink, queueThen, listThen, waitThen, rowThen, readStep, additionStep, keptStep, keptStart}
 use Rattle.ledger.proofs.Turns.{nodeAt, Turn, root, leaf, write, link, leftward, rightward, store, reads-the-root, reads-no-root}
 use Rattle.ledger.proofs.Did.{did-leaf, did-not}
-use Rattle.ledger.proofs.Good.{Good, Stepping, accessBy, effectBy, recordAfter, entryBy, turns, good-step, good-start, false-true}
+use Rattle.ledger.proofs.Good.{Good, Stepping, accessBy, effectBy, recordAfter, entryBy, beginsBy, turns, good-step, good-start, false-true}
 use Rattle.ledger.proofs.Under.{same-level}
 use Rattle.ledger.proofs.Counted.{Counted, counted-step, counted-start, counted-initial, count-still, count-unstored, count-stored, then-read}
 use Rattle.ledger.proofs.Kept.{mem-keep, keep-same, mem-operations, absent}
 use Rattle.ledger.proofs.Waiters.{NewOrOld, old, new, new-or-old, rootCount, waiter-writes, distinct-waiters, count-cap, newly, placed-is}
 use Rattle.ledger.proofs.Listing.{IsListed, read, taken, who-is-listed, placed-read, waitingOf, placed-queue, waiting-still, waiting-write, none-counted, all-wait, length-listed}
 use Rattle.ledger.proofs.Placed.{unlisted, read-unlisted}
-use Rattle.ledger.proofs.Numbers.{Numbers, numbers-listed, numbers-stepped, numbers-started}
+use Rattle.ledger.proofs.Numbers.{Numbers, shownAfter, numbers-listed, numbers-stepped, numbers-started}
 
-pub record Keeps (h : ℕ) (st : State) (k : Kept) : Type 0 where
+-- shown: the contentions that the rows have
+pub record Keeps (h : ℕ) (st : State) (shown : ℕ → ℕ) (k : Kept) : Type 0 where
   pub counts : Counted h st (k .counts)
   pub queue : k .queue ≡ waitingOf h (st .history)
   pub listing : k .listed ≡ length (listed h (st .history))
-  pub rows : Numbers h (st .operations) (st .row) (st .history) (k .rows)
+  pub rows : Numbers h (st .operations) (st .row) shown (st .history) (k .rows)
   -- each leaf write was by a process of the tree
   pub writers : (w : Waiter) → List·Memᴰ w (waiters (st .history)) → w .process < 2 ^ h
 
@@ -85,7 +85,7 @@ leaf-write-unstored p r m (readsLeft x) w = refl
 leaf-write-unstored p r m (readsRight x) w = refl
 leaf-write-unstored p r m (stores a x) w = absurd (false-true w)
 
-module _ (h p : ℕ) (st : State) (s : Stepping h p st) (k : Kept) (K : Keeps h st k) where
+module _ (h p : ℕ) (st : State) (s : Stepping h p st) (shown : ℕ → ℕ) (k : Kept) (K : Keeps h st shown k) where
   e : Entry
   e = entryBy h p st
 
@@ -127,21 +127,26 @@ module _ (h p : ℕ) (st : State) (s : Stepping h p st) (k : Kept) (K : Keeps h 
       go (suc m) d =
           subst (λ (l : ℕ). countIn h l q (entryBy h p st ∷ st .history) ≡ countIn h l q (st .history)) (sym d) (count-unstored h (entryBy h p st) (st .history) n m q)
 
+  -- the contentions shown after the step
+  abbrev pub shownThen : ℕ → ℕ → ℕ
+  shownThen contention = upd shown (st .process p .operation) (shownAfter (recordAfter h p st) contention)
+
   -- the rows after a listing of ps and the step
   step-row : (ps : List ℕ) → placed h (entryBy h p st) (st .history) ≡ ps → Distinct ps → ((i : ℕ) → List·Memᴰ i ps → List·Memᴰ i (listed h (st .history)) → ⊥)
-      → (answer : ℕ) (second : Bool) → answer ≡ cond (isRootRead (accessBy h p st)) (recordAfter h p st .seen) 0 → second ≡ isSecondLink (accessBy h p st)
+      → (none : shown (st .process p .operation) ≡ 0) (contention answer : ℕ) (second : Bool) → answer ≡ cond (isRootRead (accessBy h p st)) (recordAfter h p st .seen) 0 → second ≡ isSecondLink (accessBy h p st)
       → Numbers h (st .operations) (upd (st .row) (st .process p .operation) (rowAfter (accessBy h p st) (recordAfter h p st) (length (st .history)) (st .row (st .process p .operation))))
-      (entryBy h p st ∷ st .history)
-      (withRow (ranked ps (k .listed) (k .rows)) (st .process p .operation) (steppedNumbers (ranked ps (k .listed) (k .rows)) (st .process p .operation) (eqb (recordAfter h p st .step) 0) answer second))
-  step-row ps is apart fresh answer again says counts =
-      let listed-now = numbers-listed h (st .operations) (st .row) (entryBy h p st) (st .history) ps is apart fresh (k .rows) (K .rows) in
-      numbers-stepped h (st .operations) (st .row) (entryBy h p st ∷ st .history) (ranked ps (k .listed) (k .rows))
-      (subst (λ (n : ℕ). Numbers h (st .operations) (st .row) (entryBy h p st ∷ st .history) (ranked ps n (k .rows))) (sym (K .listing)) listed-now)
-      (st .process p .operation) (s .good .owns p (s .acts)) (s .good .unfinished p (s .acts)) (accessBy h p st) (recordAfter h p st) (length (st .history)) answer again says counts
+      (shownThen contention) (entryBy h p st ∷ st .history)
+      (withRow (ranked ps (k .listed) (k .rows)) (st .process p .operation) (steppedNumbers (ranked ps (k .listed) (k .rows)) (st .process p .operation) (eqb (recordAfter h p st .step) 0) contention answer second))
+  step-row ps is apart fresh none contention answer again says counts =
+      let listed-now = numbers-listed h (st .operations) (st .row) shown (entryBy h p st) (st .history) ps is apart fresh (k .rows) (K .rows) in
+      numbers-stepped h (st .operations) (st .row) shown (entryBy h p st ∷ st .history) (ranked ps (k .listed) (k .rows))
+      (subst (λ (n : ℕ). Numbers h (st .operations) (st .row) shown (entryBy h p st ∷ st .history) (ranked ps n (k .rows))) (sym (K .listing)) listed-now)
+      (st .process p .operation) (s .good .owns p (s .acts)) (s .good .unfinished p (s .acts)) none (accessBy h p st) (recordAfter h p st) (length (st .history)) contention answer again says counts
 
-  read-case : st .process p .adds ≡ false → accessBy h p st ≡ readsRoot → Keeps h (takeStep h p st) (readStep (st .process p) (recordAfter h p st) k)
+  read-case : (none : shown (st .process p .operation) ≡ 0) (contention : ℕ) → st .process p .adds ≡ false → accessBy h p st ≡ readsRoot
+      → Keeps h (takeStep h p st) (shownThen contention) (readStep (st .process p) (recordAfter h p st) contention k)
   unfolding takeStep readStep rowThen isLeafWrite isRootRead isSecondLink effect onward
-  read-case reads is =
+  read-case none contention reads is =
       let o = st .process p .operation in
       let isRead : isRootRead (accessBy h p st) ≡ true = ap isRootRead is in
       let ps = placed-read h (entryBy h p st) (st .history) isRead in
@@ -151,7 +156,7 @@ module _ (h p : ℕ) (st : State) (s : Stepping h p st) (k : Kept) (K : Keeps h 
         counts = subst (Counted h (takeStep h p st)) (then-read p (st .process p) (effectBy h p st .stored) (k .counts) reads) (counted-step h p st s (k .counts) (K .counts));
         queue = K .queue ∙ sym (waiting-still h (entryBy h p st) (st .history) once (ap isLeafWrite is) ∙ all-wait h (entryBy h p st) (st .history) _ (same-count-uncounted (λ q b. quiet q)));
         listing = omega (arith, K .listing, length-listed h (entryBy h p st) (st .history) (o ∷ []) ps apart (read-unlisted h p st s reads));
-        rows = step-row (o ∷ []) ps apart (read-unlisted h p st s reads) (recordAfter h p st .seen) false (ap (λ (t : Bool). cond t (recordAfter h p st .seen) 0) (sym isRead)) (sym (ap isSecondLink is));
+        rows = step-row (o ∷ []) ps apart (read-unlisted h p st s reads) none contention (recordAfter h p st .seen) false (ap (λ (t : Bool). cond t (recordAfter h p st .seen) 0) (sym isRead)) (sym (ap isSecondLink is));
         writers = writers-step;
       }
 
@@ -204,15 +209,16 @@ module _ (h p : ℕ) (st : State) (s : Stepping h p st) (k : Kept) (K : Keeps h 
         unlisted h p st s (r .0) (mem-keep now (waitingOf h (st .history)) (r .1) .0) (subst (λ (x : ℕ). List·Memᴰ x (listed h (st .history))) (sym (r .2)) l)
 
     -- as if every step listed
-    addition-lists : (c : Counts) → Counted h (takeStep h p st) c
-        → Keeps h (takeStep h p st) (rowThen (st .process p .operation) (eqb (recordAfter h p st .step) 0) 0 (isSecondLink (accessBy h p st)) (listThen (rootCount h (entryBy h p st ∷ st .history)) joinedQueue c k))
+    addition-lists : (none : shown (st .process p .operation) ≡ 0) (contention : ℕ) (c : Counts) → Counted h (takeStep h p st) c
+        → Keeps h (takeStep h p st) (shownThen contention)
+        (rowThen (st .process p .operation) (eqb (recordAfter h p st .step) 0) contention 0 (isSecondLink (accessBy h p st)) (listThen (rootCount h (entryBy h p st ∷ st .history)) joinedQueue c k))
     unfolding takeStep rowThen listThen
-    addition-lists c C =
+    addition-lists none contention c C =
         record {
           counts = record { inNode = C .inNode; reads = C .reads };
           queue = sym wait-on;
           listing = omega (arith, K .listing, length-listed h (entryBy h p st) (st .history) _ lists told-apart new-to-list, operations-long (keep now joinedQueue));
-          rows = step-row (operationsOf (keep now joinedQueue)) lists told-apart new-to-list 0 (isSecondLink (accessBy h p st)) (sym (ap (λ (t : Bool). cond t (recordAfter h p st .seen) 0) no-read)) refl;
+          rows = step-row (operationsOf (keep now joinedQueue)) lists told-apart new-to-list none contention 0 (isSecondLink (accessBy h p st)) (sym (ap (λ (t : Bool). cond t (recordAfter h p st .seen) 0) no-read)) refl;
           writers = writers-step;
         }
 
@@ -315,27 +321,30 @@ module _ (h p : ℕ) (st : State) (s : Stepping h p st) (k : Kept) (K : Keeps h 
           wait-is joinedQueue c k
           ∙ sym (list-is _ joinedQueue c k (none-counted h (entryBy h p st) (st .history) joinedQueue (root-unchanged d)) (all-wait h (entryBy h p st) (st .history) joinedQueue (root-unchanged d)))
 
-  addition-case : st .process p .adds ≡ true → Keeps h (takeStep h p st) (additionStep h p (st .process p) (recordAfter h p st) (effectBy h p st .stored) k)
+  addition-case : (none : shown (st .process p .operation) ≡ 0) (contention : ℕ) → st .process p .adds ≡ true
+      → Keeps h (takeStep h p st) (shownThen contention) (additionStep h p (st .process p) (recordAfter h p st) (effectBy h p st .stored) contention k)
   unfolding additionStep
-  addition-case adding =
+  addition-case none contention adding =
       let c = countsAfter p (st .process p .step) (effectBy h p st .stored) (k .counts) in
       let C = subst (Counted h (takeStep h p st)) (then-addition p (st .process p) (effectBy h p st .stored) (k .counts) adding) (counted-step h p st s (k .counts) (K .counts)) in
-      rw (queue-is adding, second-case (turns h p st s) adding, lists-or-waits c C) (addition-lists adding (reads-no-root (turns h p st s) adding) c C)
+      rw (queue-is adding, second-case (turns h p st s) adding, lists-or-waits c C) (addition-lists adding (reads-no-root (turns h p st s) adding) none contention c C)
 
-  pub keeps-step : Keeps h (takeStep h p st) (keptStep h p (st .process p) (recordAfter h p st) (effectBy h p st .stored) k)
+  pub keeps-step : (none : shown (st .process p .operation) ≡ 0) (contention : ℕ)
+      → Keeps h (takeStep h p st) (shownThen contention) (keptStep h p (st .process p) (recordAfter h p st) (effectBy h p st .stored) contention k)
   unfolding keptStep
-  keeps-step = go (st .process p .adds) refl
+  keeps-step none contention = go (st .process p .adds) refl
     where
       go : (t : Bool) → st .process p .adds ≡ t
-          → Keeps h (takeStep h p st) (cond t (additionStep h p (st .process p) (recordAfter h p st) (effectBy h p st .stored) k) (readStep (st .process p) (recordAfter h p st) k))
-      go true d = addition-case d
-      go false d = read-case d (reads-the-root (turns h p st s) d)
+          → Keeps h (takeStep h p st) (shownThen contention)
+          (cond t (additionStep h p (st .process p) (recordAfter h p st) (effectBy h p st .stored) contention k) (readStep (st .process p) (recordAfter h p st) contention k))
+      go true d = addition-case none contention d
+      go false d = read-case none contention d (reads-the-root (turns h p st s) d)
 
 -- ---- a start, and the beginning
 
-module _ (h p : ℕ) (adds : Bool) (delta : ℕ) (st : State) (g : Good h st) (inside : p < 2 ^ h) (free : st .process p .step ≡ 0) (room : st .operations < 1024) (k : Kept) (K : Keeps h st k) where
+module _ (h p : ℕ) (adds : Bool) (delta : ℕ) (st : State) (g : Good h st) (inside : p < 2 ^ h) (free : st .process p .step ≡ 0) (room : st .operations < 1024) (shown : ℕ → ℕ) (k : Kept) (K : Keeps h st shown k) where
   abbrev begun : Entry
-  begun = record { process = p; operation = st .operations; access = starts; stored = false }
+  begun = beginsBy h p adds delta st
 
   -- the new operation is not listed, and nothing else is listed by its start
   start-once : Once (begun ∷ st .history)
@@ -371,7 +380,7 @@ module _ (h p : ℕ) (adds : Bool) (delta : ℕ) (st : State) (g : Good h st) (i
       go (taken w n i c) =
           omega (arith, g .known isLeafWrite (w .operation) (sym (did-leaf (w .operation) (st .history)) ∙ written (waiter-writes (st .history) w (still w (new-or-old begun (st .history) w n)))))
 
-  pub keeps-start : Keeps h (start h p adds delta st) (keptStart (st .operations) p (kindOf adds) (countBelow (processes h) (busy (start h p adds delta st .process))) k)
+  pub keeps-start : Keeps h (start h p adds delta st) (upd shown (st .operations) 0) (keptStart (st .operations) p (kindOf adds) k)
   unfolding start keptStart newRow isLeafWrite isRootRead ranked rank
   keeps-start =
       record {
@@ -379,8 +388,8 @@ module _ (h p : ℕ) (adds : Bool) (delta : ℕ) (st : State) (g : Good h st) (i
         queue = K .queue ∙ sym (waiting-still h begun (st .history) start-once refl ∙ all-wait h begun (st .history) _ start-uncounted);
         listing = omega (arith, K .listing, length-listed h begun (st .history) [] start-lists nothing (λ i m l. List·Memᴰ·not-nil m));
         rows =
-            numbers-started h (st .operations) (st .row) (begun ∷ st .history) (k .rows)
-            (numbers-listed h (st .operations) (st .row) begun (st .history) [] start-lists nothing (λ i m l. List·Memᴰ·not-nil m) (k .rows) (K .rows)) _ refl refl refl refl
+            numbers-started h (st .operations) (st .row) shown (begun ∷ st .history) (k .rows)
+            (numbers-listed h (st .operations) (st .row) shown begun (st .history) [] start-lists nothing (λ i m l. List·Memᴰ·not-nil m) (k .rows) (K .rows)) _ refl refl refl refl
             (absent (st .operations) (listed h (begun ∷ st .history)) unlisted-yet);
         writers = λ w m. start-writers w (new-or-old begun (st .history) w m);
       }
@@ -389,9 +398,9 @@ module _ (h p : ℕ) (adds : Bool) (delta : ℕ) (st : State) (g : Good h st) (i
       start-writers w (old n) = K .writers w n
       start-writers w (new d x) = absurd (false-true d)
 
-pub keeps-initial : (h : ℕ) (k : Kept) → ((l q : ℕ) → k .counts .inNode l q ≡ 0) → k .queue ≡ [] → k .listed ≡ 0 → Keeps h initial k
+pub keeps-initial : (h : ℕ) (shown : ℕ → ℕ) (k : Kept) → ((l q : ℕ) → k .counts .inNode l q ≡ 0) → k .queue ≡ [] → k .listed ≡ 0 → Keeps h initial shown k
 unfolding initial waiters keep listed
-keeps-initial h k zeros empty none =
+keeps-initial h shown k zeros empty none =
     record {
       counts = counted-initial h (k .counts) zeros;
       queue = empty;

@@ -11,4 +11,5 @@ pub mod Placed
 pub mod Keeps
 pub mod Total
 pub mod StepCount
+pub mod Held
 pub mod Alone

@@ -1,4 +1,4 @@
--- The rows' numbers after a listing and after a step.
+-- The rows' numbers after a listing, a step and a start.
 use Prim.Native.Nat.{ℕ, zero, suc, _+_, _*_, _^_, _<_}
 use native.Mathlib.Nat.{add-zero}
 use native.Mathlib.Omega.{arith}
@@ -20,86 +20,94 @@ use Rattle.rows.specs.Rows.{head, rowNumbers, withRow, freshNumbers, steppedNum
 use Rattle.rows.proofs.Laws.{withRow-at, withRow-other}
 use Rattle.ledger.proofs.Listing.{ranks}
 
--- the first m rows' numbers, with the ranks by a history
-abbrev pub Numbers : ℕ → ℕ → (ℕ → Row) → List Entry → (ℕ → ℕ) → Type 0
-Numbers h m row es f = (i j : ℕ) → i < m → j < 5 → f (5 * i + j) ≡ getD (rowNumbers (row i) (rank h es i)) j 0
+-- the first m rows' numbers, with the contentions shown and the ranks by a history
+abbrev pub Numbers : ℕ → ℕ → (ℕ → Row) → (ℕ → ℕ) → List Entry → (ℕ → ℕ) → Type 0
+Numbers h m row shown es f = (i j : ℕ) → i < m → j < 5 → f (5 * i + j) ≡ getD (rowNumbers (row i) (shown i) (rank h es i)) j 0
 
 -- only the fourth number is the rank
-beside : (w : Row) (a b j : ℕ) → (j ≡ 3 → ⊥) → getD (rowNumbers w a) j 0 ≡ getD (rowNumbers w b) j 0
+beside : (w : Row) (c a b j : ℕ) → (j ≡ 3 → ⊥) → getD (rowNumbers w c a) j 0 ≡ getD (rowNumbers w c b) j 0
 unfolding rowNumbers
-beside w a b zero n = refl
-beside w a b (suc zero) n = refl
-beside w a b (suc (suc zero)) n = refl
-beside w a b (suc (suc (suc zero))) n = absurd (n refl)
-beside w a b (suc (suc (suc (suc j)))) n = refl
+beside w c a b zero n = refl
+beside w c a b (suc zero) n = refl
+beside w c a b (suc (suc zero)) n = refl
+beside w c a b (suc (suc (suc zero))) n = absurd (n refl)
+beside w c a b (suc (suc (suc (suc j)))) n = refl
 
-the-rank : (w : Row) (a : ℕ) → getD (rowNumbers w a) 3 0 ≡ a
+the-rank : (w : Row) (c a : ℕ) → getD (rowNumbers w c a) 3 0 ≡ a
 unfolding rowNumbers
-the-rank w a = refl
+the-rank w c a = refl
 
-pub numbers-listed : (h m : ℕ) (row : ℕ → Row) (e : Entry) (es : List Entry) (ps : List ℕ) → placed h e es ≡ ps → Distinct ps
+pub numbers-listed : (h m : ℕ) (row : ℕ → Row) (shown : ℕ → ℕ) (e : Entry) (es : List Entry) (ps : List ℕ) → placed h e es ≡ ps → Distinct ps
     → ((i : ℕ) → List·Memᴰ i ps → List·Memᴰ i (listed h es) → ⊥)
-    → (f : ℕ → ℕ) → Numbers h m row es f → Numbers h m row (e ∷ es) (ranked ps (length (listed h es)) f)
-numbers-listed h m row e es ps is apart fresh f n i j b c = go (eqb j 3) refl
+    → (f : ℕ → ℕ) → Numbers h m row shown es f → Numbers h m row shown (e ∷ es) (ranked ps (length (listed h es)) f)
+numbers-listed h m row shown e es ps is apart fresh f n i j b c = go (eqb j 3) refl
   where
-    go : (t : Bool) → eqb j 3 ≡ t → ranked ps (length (listed h es)) f (5 * i + j) ≡ getD (rowNumbers (row i) (rank h (e ∷ es) i)) j 0
+    go : (t : Bool) → eqb j 3 ≡ t → ranked ps (length (listed h es)) f (5 * i + j) ≡ getD (rowNumbers (row i) (shown i) (rank h (e ∷ es) i)) j 0
     go true d =
         let three = eqb-true j 3 d in
-        rw three (ranks h e es ps is apart fresh f i (n i 3 b (omega arith) ∙ the-rank (row i) (rank h es i)) ∙ sym (the-rank (row i) (rank h (e ∷ es) i)))
+        rw three (ranks h e es ps is apart fresh f i (n i 3 b (omega arith) ∙ the-rank (row i) (shown i) (rank h es i)) ∙ sym (the-rank (row i) (shown i) (rank h (e ∷ es) i)))
     go false d =
         let other = eqb-false j 3 d in
-        ranked-beside ps _ f (5 * i + j) (λ x. other (omega arith)) ∙ n i j b c ∙ beside (row i) (rank h es i) (rank h (e ∷ es) i) j other
+        ranked-beside ps _ f (5 * i + j) (λ x. other (omega arith)) ∙ n i j b c ∙ beside (row i) (shown i) (rank h es i) (rank h (e ∷ es) i) j other
 
 five-same : {a b c d e a′ b′ c′ d′ e′ : ℕ} → a ≡ a′ → b ≡ b′ → c ≡ c′ → d ≡ d′ → e ≡ e′ → a ∷ b ∷ c ∷ d ∷ e ∷ [] ≡ a′ ∷ b′ ∷ c′ ∷ d′ ∷ e′ ∷ []
 five-same p q r s t = cc
 
 -- ---- a step of operation o
 
-module _ (h m : ℕ) (row : ℕ → Row) (es : List Entry) (f : ℕ → ℕ) (n : Numbers h m row es f) (o : ℕ) (b : o < m) (unfinished : row o .finished ≡ false)
-    (a : Access) (r : Process) (now : ℕ) (answer : ℕ) (second : Bool) (says : answer ≡ cond (isRootRead a) (r .seen) 0) (counts : second ≡ isSecondLink a) where
-  stepped-is : steppedNumbers f o (eqb (r .step) 0) answer second ≡ rowNumbers (rowAfter a r now (row o)) (rank h es o)
+-- the contention shown after it: none before its last
+abbrev pub shownAfter : Process → ℕ → ℕ
+shownAfter r contention = cond (eqb (r .step) 0) contention 0
+
+module _ (h m : ℕ) (row : ℕ → Row) (shown : ℕ → ℕ) (es : List Entry) (f : ℕ → ℕ) (n : Numbers h m row shown es f) (o : ℕ) (b : o < m) (unfinished : row o .finished ≡ false)
+    (none : shown o ≡ 0) (a : Access) (r : Process) (now contention answer : ℕ) (second : Bool) (says : answer ≡ cond (isRootRead a) (r .seen) 0) (counts : second ≡ isSecondLink a) where
+  stepped-is : steppedNumbers f o (eqb (r .step) 0) contention answer second ≡ rowNumbers (rowAfter a r now (row o)) (shownAfter r contention) (rank h es o)
   unfolding steppedNumbers rowNumbers rowAfter head one
   stepped-is =
-      let first : f (5 * o) ≡ row o .process * 2 ^ 24 + row o .kind * 2 ^ 16 + row o .contention = first-number in
+      let first : f (5 * o) ≡ row o .process * 2 ^ 24 + row o .kind * 2 ^ 16 = first-number in
       let steps : f (5 * o + 1) ≡ row o .steps = n o 1 b (omega arith) in
       let seconds : f (5 * o + 4) ≡ row o .seconds = n o 4 b (omega arith) in
-      five-same (omega arith) (omega arith) says (n o 3 b (omega arith)) (ap₂ _+_ seconds (ap (λ (t : Bool). cond t 1 0) counts))
+      five-same (ends (eqb (r .step) 0)) (omega arith) says (n o 3 b (omega arith)) (ap₂ _+_ seconds (ap (λ (t : Bool). cond t 1 0) counts))
     where
-      first-number : f (5 * o) ≡ row o .process * 2 ^ 24 + row o .kind * 2 ^ 16 + row o .contention
+      first-number : f (5 * o) ≡ row o .process * 2 ^ 24 + row o .kind * 2 ^ 16
       first-number =
           ap f (sym (add-zero (5 * o))) ∙ n o 0 b (omega arith)
-          ∙ ap (λ (t : Bool). row o .process * 2 ^ 24 + row o .kind * 2 ^ 16 + cond t 1 0 * 2 ^ 8 + row o .contention) unfinished ∙ omega arith
+          ∙ ap₂ (λ (t : Bool) (c : ℕ). row o .process * 2 ^ 24 + row o .kind * 2 ^ 16 + cond t 1 0 * 2 ^ 8 + c) unfinished none ∙ omega arith
 
-  pub numbers-stepped : Numbers h m (upd row o (rowAfter a r now (row o))) es (withRow f o (steppedNumbers f o (eqb (r .step) 0) answer second))
+      ends : (t : Bool) → f (5 * o) + cond t 1 0 * (2 ^ 8 + contention) ≡ row o .process * 2 ^ 24 + row o .kind * 2 ^ 16 + cond t 1 0 * 2 ^ 8 + cond t contention 0
+      ends true = omega (arith, first-number)
+      ends false = omega (arith, first-number)
+
+  pub numbers-stepped : Numbers h m (upd row o (rowAfter a r now (row o))) (upd shown o (shownAfter r contention)) es (withRow f o (steppedNumbers f o (eqb (r .step) 0) contention answer second))
   numbers-stepped i j c d = go (eqb i o) refl
     where
       ns : List ℕ
-      ns = steppedNumbers f o (eqb (r .step) 0) answer second
+      ns = steppedNumbers f o (eqb (r .step) 0) contention answer second
 
-      go : (t : Bool) → eqb i o ≡ t → withRow f o ns (5 * i + j) ≡ getD (rowNumbers (upd row o (rowAfter a r now (row o)) i) (rank h es i)) j 0
+      go : (t : Bool) → eqb i o ≡ t → withRow f o ns (5 * i + j) ≡ getD (rowNumbers (upd row o (rowAfter a r now (row o)) i) (upd shown o (shownAfter r contention) i) (rank h es i)) j 0
       go true x =
-          rw (eqb-true i o x, upd-same row o (rowAfter a r now (row o))) (withRow-at f o ns j d ∙ ap (λ (l : List ℕ). getD l j 0) stepped-is)
+          rw (eqb-true i o x, upd-same row o (rowAfter a r now (row o)), upd-same shown o (shownAfter r contention)) (withRow-at f o ns j d ∙ ap (λ (l : List ℕ). getD l j 0) stepped-is)
       go false x =
           let other = eqb-false i o x in
-          rw (upd-other row o (rowAfter a r now (row o)) i other) (withRow-other f o ns (5 * i + j) (λ y. other (omega arith)) ∙ n i j c d)
+          rw (upd-other row o (rowAfter a r now (row o)) i other, upd-other shown o (shownAfter r contention) i other) (withRow-other f o ns (5 * i + j) (λ y. other (omega arith)) ∙ n i j c d)
 
 -- ---- a start, of operation m
 
 fresh-is : (w : Row) (k : ℕ) → w .finished ≡ false → w .steps ≡ 0 → w .answer ≡ 0 → w .seconds ≡ 0 → k ≡ 0
-    → freshNumbers (w .process) (w .kind) (w .contention) ≡ rowNumbers w k
+    → freshNumbers (w .process) (w .kind) ≡ rowNumbers w 0 k
 unfolding freshNumbers rowNumbers one
 fresh-is w k a b c d e =
-    five-same (ap (λ (t : Bool). head (w .process) (w .kind) (cond t 1 0) (w .contention)) (sym a)) (sym b) (sym c) (sym e) (sym d)
+    five-same (ap (λ (t : Bool). head (w .process) (w .kind) (cond t 1 0) 0) (sym a)) (sym b) (sym c) (sym e) (sym d)
 
-pub numbers-started : (h m : ℕ) (row : ℕ → Row) (es : List Entry) (f : ℕ → ℕ) → Numbers h m row es f → (w : Row) → w .finished ≡ false → w .steps ≡ 0 → w .answer ≡ 0 → w .seconds ≡ 0
-    → rank h es m ≡ 0 → Numbers h (suc m) (upd row m w) es (withRow f m (freshNumbers (w .process) (w .kind) (w .contention)))
-numbers-started h m row es f n w a b c d e i j x y = go (eqb i m) refl
+pub numbers-started : (h m : ℕ) (row : ℕ → Row) (shown : ℕ → ℕ) (es : List Entry) (f : ℕ → ℕ) → Numbers h m row shown es f → (w : Row) → w .finished ≡ false → w .steps ≡ 0 → w .answer ≡ 0 → w .seconds ≡ 0
+    → rank h es m ≡ 0 → Numbers h (suc m) (upd row m w) (upd shown m 0) es (withRow f m (freshNumbers (w .process) (w .kind)))
+numbers-started h m row shown es f n w a b c d e i j x y = go (eqb i m) refl
   where
     ns : List ℕ
-    ns = freshNumbers (w .process) (w .kind) (w .contention)
+    ns = freshNumbers (w .process) (w .kind)
 
-    go : (t : Bool) → eqb i m ≡ t → withRow f m ns (5 * i + j) ≡ getD (rowNumbers (upd row m w i) (rank h es i)) j 0
-    go true z = rw (eqb-true i m z, upd-same row m w) (withRow-at f m ns j y ∙ ap (λ (l : List ℕ). getD l j 0) (fresh-is w (rank h es m) a b c d e))
+    go : (t : Bool) → eqb i m ≡ t → withRow f m ns (5 * i + j) ≡ getD (rowNumbers (upd row m w i) (upd shown m 0 i) (rank h es i)) j 0
+    go true z = rw (eqb-true i m z, upd-same row m w, upd-same shown m 0) (withRow-at f m ns j y ∙ ap (λ (l : List ℕ). getD l j 0) (fresh-is w (rank h es m) a b c d e))
     go false z =
         let other = eqb-false i m z in
-        rw (upd-other row m w i other) (withRow-other f m ns (5 * i + j) (λ q. other (omega arith)) ∙ n i j (omega arith) y)
+        rw (upd-other row m w i other, upd-other shown m 0 i other) (withRow-other f m ns (5 * i + j) (λ q. other (omega arith)) ∙ n i j (omega arith) y)

@@ -334,7 +334,7 @@ module _ (h p : ℕ) (adds : Bool) (delta : ℕ) (st : State) (g : Good h st) (i
   unfolding start
   old-row P q b before = subst P (sym (upd-other (st .row) (st .operations) _ (st .process q .operation) (λ e. omega (arith, g .owns q b)))) before
 
-  new-row : (P : Row → Type 0) → P (newRow h p adds delta (start h p adds delta st .process) (length (st .history))) → P (start h p adds delta st .row (st .operations))
+  new-row : (P : Row → Type 0) → P (newRow p adds delta (length (st .history))) → P (start h p adds delta st .row (st .operations))
   new-row P now = started-row h p adds delta st g inside free room (st .operations) P now (λ n. absurd (n refl))
 
   pub count-start : StepCount h (start h p adds delta st)

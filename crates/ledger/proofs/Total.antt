@@ -40,7 +40,7 @@ total-few st k t = omega (arith, t .total, count-le (st .operations) (λ i. did 
 
 -- ---- what a step adds
 
-module _ (h p : ℕ) (r r′ : Process) (stored : Bool) (k : Kept) where
+module _ (h p : ℕ) (r r′ : Process) (stored : Bool) (contention : ℕ) (k : Kept) where
   list-size : (f : ℕ → ℕ) (ws : List Waiter) (c : Counts) → size (listThen f ws c k) ≡ k .listed + length ws
   unfolding size listThen
   list-size f ws c = omega (arith, length-keep (isCounted f) ws)
@@ -60,7 +60,7 @@ module _ (h p : ℕ) (r r′ : Process) (stored : Bool) (k : Kept) where
       go true = refl
       go false = refl
 
-  row-size : (i : ℕ) (finished : Bool) (answer : ℕ) (again : Bool) (x : Kept) → size (rowThen i finished answer again x) ≡ size x
+  row-size : (i : ℕ) (finished : Bool) (answer : ℕ) (again : Bool) (x : Kept) → size (rowThen i finished contention answer again x) ≡ size x
   unfolding size rowThen
   row-size i finished answer again x = refl
 
@@ -68,7 +68,7 @@ module _ (h p : ℕ) (r r′ : Process) (stored : Bool) (k : Kept) where
   unfolding size
   size-more ws n e = omega arith
 
-  addition-size : size (additionStep h p r r′ stored k) ≡ size k + cond (eqb (r .step) 2) 1 0
+  addition-size : size (additionStep h p r r′ stored contention k) ≡ size k + cond (eqb (r .step) 2) 1 0
   unfolding additionStep
   addition-size = row-size (r .operation) (eqb (r′ .step) 0) 0 (secondLink (r .step)) _ ∙ go (atRoot h (r .step) stored) ∙ omega-sum
     where
@@ -82,7 +82,7 @@ module _ (h p : ℕ) (r r′ : Process) (stored : Bool) (k : Kept) where
       omega-sum : k .listed + length (queueThen p r k) ≡ size k + cond (eqb (r .step) 2) 1 0
       omega-sum = size-more (queueThen p r k) _ queue-size
 
-  read-size : size (readStep r r′ k) ≡ size k + 1
+  read-size : size (readStep r r′ contention k) ≡ size k + 1
   unfolding readStep rowThen size
   read-size = omega arith
 
@@ -140,22 +140,22 @@ acts-early h p r (leftward e c w) k d = absurd (false-true k)
 acts-early h p r (rightward e c w) k d = absurd (false-true k)
 acts-early h p r (store e c w) k d = absurd (false-true k)
 
-module _ (h p : ℕ) (st : State) (s : Stepping h p st) (k : Kept) (K : Keeps h st k) (t : Total st k) where
+module _ (h p : ℕ) (st : State) (s : Stepping h p st) (shown : ℕ → ℕ) (k : Kept) (K : Keeps h st shown k) (t : Total st k) (contention : ℕ) where
   abbrev kept′ : Kept
-  kept′ = keptStep h p (st .process p) (recordAfter h p st) (effectBy h p st .stored) k
+  kept′ = keptStep h p (st .process p) (recordAfter h p st) (effectBy h p st .stored) contention k
 
   kept-size : size kept′ ≡ size k + cond (acts (accessBy h p st)) 1 0
   unfolding keptStep
   kept-size = go (st .process p .adds) refl
     where
       go : (b : Bool) → st .process p .adds ≡ b
-          → size (cond b (additionStep h p (st .process p) (recordAfter h p st) (effectBy h p st .stored) k) (readStep (st .process p) (recordAfter h p st) k))
+          → size (cond b (additionStep h p (st .process p) (recordAfter h p st) (effectBy h p st .stored) contention k) (readStep (st .process p) (recordAfter h p st) contention k))
           ≡ size k + cond (acts (accessBy h p st)) 1 0
       go true d =
-          addition-size h p (st .process p) (recordAfter h p st) (effectBy h p st .stored) k
-          ∙ ap (λ (b : Bool). size k + cond b 1 0) (write-case h p st s k K (turns h p st s) d ∙ sym (or-none _ _ (reads-no-root (turns h p st s) d)))
+          addition-size h p (st .process p) (recordAfter h p st) (effectBy h p st .stored) contention k
+          ∙ ap (λ (b : Bool). size k + cond b 1 0) (write-case h p st s shown k K (turns h p st s) d ∙ sym (or-none _ _ (reads-no-root (turns h p st s) d)))
       go false d =
-          read-size h p (st .process p) (recordAfter h p st) (effectBy h p st .stored) k
+          read-size h p (st .process p) (recordAfter h p st) (effectBy h p st .stored) contention k
           ∙ ap (λ (b : Bool). size k + cond b 1 0) (sym (ap acts (reads-the-root (turns h p st s) d) ∙ root-acts))
 
   acted-step : countBelow (st .operations) (λ i. did acts i (entryBy h p st ∷ st .history)) ≡ countBelow (st .operations) (λ i. did acts i (st .history)) + cond (acts (accessBy h p st)) 1 0
@@ -176,10 +176,10 @@ module _ (h p : ℕ) (st : State) (s : Stepping h p st) (k : Kept) (K : Keeps h 
 
 -- ---- a start, and the beginning
 
-pub total-start : (h p : ℕ) (adds : Bool) (delta : ℕ) (st : State) (g : Good h st) (k : Kept) → Total st k → (kind contention : ℕ)
-    → Total (start h p adds delta st) (keptStart (st .operations) p kind contention k)
+pub total-start : (h p : ℕ) (adds : Bool) (delta : ℕ) (st : State) (g : Good h st) (k : Kept) → Total st k → (kind : ℕ)
+    → Total (start h p adds delta st) (keptStart (st .operations) p kind k)
 unfolding start keptStart size countBelow isLeafWrite isRootRead
-total-start h p adds delta st g k t kind contention =
+total-start h p adds delta st g k t kind =
     record {
       total =
           t .total ∙ count-same (st .operations) _ _ (λ i b. sym (did-not acts i _ (st .history) refl))

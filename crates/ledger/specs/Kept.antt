@@ -1,11 +1,11 @@
 -- What the replay keeps beside memory and process records: the counts, the queue of additions that wait to be listed, how many operations
 -- are listed, and the rows; and what one step and one start make of it.
 use Prim.Native.Nat.{ℕ, suc, _+_, _-_, _*_, _%_}
-use mathlib.Core.Bool.{Bool, true, false, not, cond, _&&_}
+use mathlib.Core.Bool.{Bool, false, not, cond, _&&_}
 use mathlib.Core.List.{List, [], _∷_, _++_}
 use lib.ListN.{length}
 use lib.Dec.{leb, eqb}
-use Rattle.meaning.specs.Steps.{upd, Process}
+use Rattle.meaning.specs.Steps.{Process}
 use Rattle.meaning.specs.TakenIn.{keep}
 use Rattle.taken.specs.CountIn.{Waiter}
 use Rattle.counts.specs.Counts.{Counts, countsAfter}
@@ -48,34 +48,34 @@ listThen count ws c k =
 unfoldable pub waitThen : List Waiter → Counts → Kept → Kept
 waitThen ws c k = record { counts = c; queue = ws; listed = k .listed; rows = k .rows }
 
--- the row of operation i after one more step
-unfoldable pub rowThen : ℕ → Bool → ℕ → Bool → Kept → Kept
-rowThen i finished answer second k =
+-- the row of operation i after one more step; a last one puts the contention in
+unfoldable pub rowThen : ℕ → Bool → ℕ → ℕ → Bool → Kept → Kept
+rowThen i finished contention answer second k =
     record {
       counts = k .counts;
       queue = k .queue;
       listed = k .listed;
-      rows = withRow (k .rows) i (steppedNumbers (k .rows) i finished answer second);
+      rows = withRow (k .rows) i (steppedNumbers (k .rows) i finished contention answer second);
     }
 
 -- a read's one step lists it
-unfoldable pub readStep : Process → Process → Kept → Kept
-readStep r r′ k =
-    rowThen (r .operation) (eqb (r′ .step) 0) (r′ .seen) false
+unfoldable pub readStep : Process → Process → ℕ → Kept → Kept
+readStep r r′ contention k =
+    rowThen (r .operation) (eqb (r′ .step) 0) contention (r′ .seen) false
     (record { counts = k .counts; queue = k .queue; listed = suc (k .listed); rows = ranked (r .operation ∷ []) (k .listed) (k .rows) })
 
-unfoldable pub additionStep : ℕ → ℕ → Process → Process → Bool → Kept → Kept
-additionStep h p r r′ stored k =
+unfoldable pub additionStep : ℕ → ℕ → Process → Process → Bool → ℕ → Kept → Kept
+additionStep h p r r′ stored contention k =
     let c : Counts = countsAfter p (r .step) stored (k .counts) in
     let ws : List Waiter = queueThen p r k in
-    rowThen (r .operation) (eqb (r′ .step) 0) 0 (secondLink (r .step))
+    rowThen (r .operation) (eqb (r′ .step) 0) contention 0 (secondLink (r .step))
     (cond (atRoot h (r .step) stored) (listThen (c .inNode h) ws c k) (waitThen ws c k))
 
--- what a step of process p, whose record was r and is r′, makes of what is kept
-unfoldable pub keptStep : ℕ → ℕ → Process → Process → Bool → Kept → Kept
-keptStep h p r r′ stored k = cond (r .adds) (additionStep h p r r′ stored k) (readStep r r′ k)
+-- what a step of process p, whose record was r and is r′, makes of what is kept; contention is that of its operation so far
+unfoldable pub keptStep : ℕ → ℕ → Process → Process → Bool → ℕ → Kept → Kept
+keptStep h p r r′ stored contention k = cond (r .adds) (additionStep h p r r′ stored contention k) (readStep r r′ contention k)
 
 -- a start adds a row
-unfoldable pub keptStart : ℕ → ℕ → ℕ → ℕ → Kept → Kept
-keptStart i p kind contention k =
-    record { counts = k .counts; queue = k .queue; listed = k .listed; rows = withRow (k .rows) i (freshNumbers p kind contention) }
+unfoldable pub keptStart : ℕ → ℕ → ℕ → Kept → Kept
+keptStart i p kind k =
+    record { counts = k .counts; queue = k .queue; listed = k .listed; rows = withRow (k .rows) i (freshNumbers p kind) }

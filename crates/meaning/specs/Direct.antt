@@ -22,6 +22,7 @@ use Rattle.meaning.specs.Access.{Access, first, second, starts, readsRoo
 use Rattle.meaning.specs.Steps.{Process, sawIt, sawLeft, sawRight, atStep}
 use Rattle.meaning.specs.Run.{Entry, Row, State, Outcome, refused, accepted, initial, busy, newRow, start, recordRefusal, outcome}
 use Rattle.meaning.specs.Alone.{alone}
+use Rattle.meaning.specs.Contention.{during}
 use Rattle.meaning.specs.Plain.{numberAfter, runDown, upTo, timesIn}
 use Rattle.meaning.specs.Printed.{text, decimal, printed}
 use Rattle.meaning.specs.Starred.{times, step, reads, adds, recording}
@@ -94,10 +95,10 @@ abbrev pub processShown : Process → List ℕ
 processShown r =
     r .step ∷ r .operation ∷ digit (r .adds) ∷ r .delta ∷ r .seen ∷ r .seenLeft ∷ r .seenRight ∷ []
 
--- of each entry its process, its operation, and whether it is an SC that succeeded
+-- of each entry its process, its operation, whether it is an SC that succeeded, and how many are busy after it
 abbrev pub entries : List Entry → List ℕ
 entries [] = []
-entries (e ∷ es) = (e .process ∷ e .operation ∷ digit (e .stored) ∷ []) ++ entries es
+entries (e ∷ es) = (e .process ∷ e .operation ∷ digit (e .stored) ∷ e .busy ∷ []) ++ entries es
 
 -- whether process 0 is busy, operation 0's steps, all records
 abbrev pub stepped : State → List ℕ
@@ -156,9 +157,13 @@ afterF = stateAfter (outcome (recording 39 (adds 0 5 ∷ times 2 (step 0) ∷ ad
 
 -- operation 0 adds 2^32 - 1, operation 1 adds 2, the others read; a read's delta is not looked at
 abbrev pub rows : ℕ → Row
-rows zero = newRow 1 0 true 4294967295 (initial .process) 0
-rows (suc zero) = newRow 1 1 true 2 (initial .process) 0
-rows (suc (suc i)) = newRow 1 0 false 9 (initial .process) 0
+rows zero = newRow 0 true 4294967295 0
+rows (suc zero) = newRow 1 true 2 0
+rows (suc (suc i)) = newRow 0 false 9 0
+
+-- the row of an addition that started with record 2 and took its latest step, the last if it is finished, with record 4
+abbrev pub span : Bool → Row
+span finished = record { process = 0; kind = 3; delta = 0; finished = finished; steps = 2; answer = 0; seconds = 0; started = 2; ended = 4 }
 
 -- ---- the pairs
 
@@ -275,7 +280,10 @@ ofHistory =
     ∷ (processShown (atStep 9 some) is 9 ∷ 3 ∷ 1 ∷ 4 ∷ 5 ∷ 6 ∷ 7 ∷ [])
     -- the latest first: 0's leaf read, its start as operation 1, 1's start as operation 0
     ∷ (entries (stateAfter (outcome (recording 14 (reads 1 ∷ adds 0 5 ∷ step 0 ∷ []))) .history)
-    is 0 ∷ 1 ∷ 0 ∷ 0 ∷ 1 ∷ 0 ∷ 1 ∷ 0 ∷ 0 ∷ [])
+    is 0 ∷ 1 ∷ 0 ∷ 2 ∷ 0 ∷ 1 ∷ 0 ∷ 2 ∷ 1 ∷ 0 ∷ 0 ∷ 1 ∷ [])
+    -- "from the start up to, but without, the operation's last step; for an unfinished one, up to the end"
+    ∷ (among (0 ∷ 1 ∷ 2 ∷ 3 ∷ 4 ∷ 5 ∷ []) (during (span true)) is 2 ∷ 3 ∷ [])
+    ∷ (among (0 ∷ 1 ∷ 2 ∷ 3 ∷ 4 ∷ 5 ∷ []) (during (span false)) is 2 ∷ 3 ∷ 4 ∷ 5 ∷ [])
     ∷ []
 
 -- "One plain number from 0, run down that list modulo 2^32"; the texts

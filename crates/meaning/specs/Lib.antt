@@ -5,6 +5,7 @@ pub mod Access
 pub mod Steps
 pub mod Run
 pub mod Alone
+pub mod Contention
 pub mod TakenIn
 pub mod Report
 pub mod Printed

@@ -11,6 +11,7 @@ use Rattle.recording.specs.Record.{Answer}
 use Rattle.meaning.specs.Layout.{height}
 use Rattle.meaning.specs.Tree.{root}
 use Rattle.meaning.specs.Run.{Row, State, Outcome, refused, accepted, outcome}
+use Rattle.meaning.specs.Contention.{contention}
 use Rattle.meaning.specs.TakenIn.{rank}
 use Rattle.meaning.specs.Report.{one}
 
@@ -35,13 +36,13 @@ line (f ∷ []) = f ++ text "\n"
 line (f ∷ g ∷ fs) = f ++ (text " " ++ line (g ∷ fs))
 
 -- "the columns in order, `read` or `add` for the kind"
-unfoldable pub rowLine : Row → ℕ → List ℕ
-rowLine w rank =
+unfoldable pub rowLine : Row → ℕ → ℕ → List ℕ
+rowLine w contention rank =
     line
     (decimal (w .process)
     ∷ cond (eqb (w .kind) 2) (text "read") (text "add")
     ∷ decimal (one (w .finished))
-    ∷ decimal (w .contention)
+    ∷ decimal contention
     ∷ decimal (w .steps)
     ∷ decimal (w .answer)
     ∷ decimal rank
@@ -50,7 +51,7 @@ rowLine w rank =
 
 unfoldable pub rowLines : ℕ → State → ℕ → List ℕ
 rowLines h st zero = []
-rowLines h st (suc k) = rowLines h st k ++ rowLine (st .row k) (rank h (st .history) k)
+rowLines h st (suc k) = rowLines h st k ++ rowLine (st .row k) (contention (st .row k) (st .history)) (rank h (st .history) k)
 
 -- "the word `refused`, the number and the place"; otherwise "`operations m counter v` and one line per row"
 unfoldable pub printedOf : ℕ → Outcome → List ℕ

@@ -9,21 +9,22 @@ use Rattle.recording.specs.Record.{Answer}
 use Rattle.meaning.specs.Layout.{height}
 use Rattle.meaning.specs.Tree.{root}
 use Rattle.meaning.specs.Run.{Row, State, Outcome, refused, accepted, outcome}
+use Rattle.meaning.specs.Contention.{contention}
 use Rattle.meaning.specs.TakenIn.{rank}
 
 unfoldable pub one : Bool → ℕ
 one b = cond b 1 0
 
 -- the columns of a row, by their bytes
-unfoldable pub rowBytes : Row → ℕ → List ℕ
-rowBytes w rank =
-    (w .process ∷ w .kind ∷ one (w .finished) ∷ w .contention ∷ [])
+unfoldable pub rowBytes : Row → ℕ → ℕ → List ℕ
+rowBytes w contention rank =
+    (w .process ∷ w .kind ∷ one (w .finished) ∷ contention ∷ [])
     ++ (fourBytes (w .steps) ++ (fourBytes (w .answer) ++ (fourBytes rank ++ fourBytes (w .seconds))))
 
 -- the rows of the first k operations, in order of start
 unfoldable pub rowsBytes : ℕ → State → ℕ → List ℕ
 rowsBytes h st zero = []
-rowsBytes h st (suc k) = rowsBytes h st k ++ rowBytes (st .row k) (rank h (st .history) k)
+rowsBytes h st (suc k) = rowsBytes h st k ++ rowBytes (st .row k) (contention (st .row k) (st .history)) (rank h (st .history) k)
 
 -- "Byte 0: version 1. Bytes 1 to 4: 4 + 20m. Bytes 5 to 8: value of node 1 at the end. Then one row of 20 bytes for each operation."
 unfoldable pub reportBytes : ℕ → State → List ℕ

@@ -14,21 +14,22 @@ use Rattle.meaning.specs.Tree.{processes}
 use Rattle.meaning.specs.Access.{Access, starts, isRootRead, isSecondLink}
 use Rattle.meaning.specs.Steps.{upd, Memory, Process, idle, Effect, effect, accessOf, nextRecord}
 
--- What one record of the recording did: which process, for which operation, what, and whether that was an SC that succeeded.
+-- What one record of the recording did: which process, for which operation, what, whether that was an SC that succeeded, and how many
+-- processes are busy right after it.
 pub record Entry : Type 0 where
   pub process : ℕ
   pub operation : ℕ
   pub access : Access
   pub stored : Bool
+  pub busy : ℕ
 
--- An operation's row but for its rank. Kind is 2 or 3; started and ended are how many records had been taken before its start record and
--- before its last step.
+-- An operation's row but for its contention and its rank, which are told by the history. Kind is 2 or 3; started and ended are how many
+-- records had been taken before its start record and before its latest step, the last if it is finished.
 pub record Row : Type 0 where
   pub process : ℕ
   pub kind : ℕ
   pub delta : ℕ
   pub finished : Bool
-  pub contention : ℕ
   pub steps : ℕ
   pub answer : ℕ
   pub seconds : ℕ
@@ -45,7 +46,7 @@ pub record State : Type 0 where
   pub history : List Entry
 
 unfoldable pub blank : Row
-blank = record { process = 0; kind = 0; delta = 0; finished = false; contention = 0; steps = 0; answer = 0; seconds = 0; started = 0; ended = 0 }
+blank = record { process = 0; kind = 0; delta = 0; finished = false; steps = 0; answer = 0; seconds = 0; started = 0; ended = 0 }
 
 -- "All values start at 0 and all link sets empty."
 unfoldable pub initial : State
@@ -62,6 +63,10 @@ initial =
 unfoldable pub busy : (ℕ → Process) → ℕ → Bool
 busy process p = not (eqb (process p .step) 0)
 
+-- the count of ones in the busy set
+unfoldable pub busyCount : ℕ → (ℕ → Process) → ℕ
+busyCount h process = countBelow (processes h) (busy process)
+
 -- ---- a start record
 
 unfoldable pub started : ℕ → Bool → ℕ → Process
@@ -70,15 +75,13 @@ started i adds delta = record { step = 1; operation = i; adds = adds; delta = de
 unfoldable pub kindOf : Bool → ℕ
 kindOf adds = cond adds 3 2
 
--- "contention: busy processes right after its start record, itself included"
-unfoldable pub newRow : ℕ → ℕ → Bool → ℕ → (ℕ → Process) → ℕ → Row
-newRow h p adds delta after now =
+unfoldable pub newRow : ℕ → Bool → ℕ → ℕ → Row
+newRow p adds delta now =
     record {
       process = p;
       kind = kindOf adds;
       delta = delta;
       finished = false;
-      contention = countBelow (processes h) (busy after);
       steps = 0;
       answer = 0;
       seconds = 0;
@@ -93,8 +96,8 @@ start h p adds delta st =
       memory = st .memory;
       process = after;
       operations = suc (st .operations);
-      row = upd (st .row) (st .operations) (newRow h p adds delta after (length (st .history)));
-      history = record { process = p; operation = st .operations; access = starts; stored = false } ∷ st .history;
+      row = upd (st .row) (st .operations) (newRow p adds delta (length (st .history)));
+      history = record { process = p; operation = st .operations; access = starts; stored = false; busy = busyCount h after } ∷ st .history;
     }
 
 -- ---- a step
@@ -108,7 +111,6 @@ rowAfter a r now w =
       kind = w .kind;
       delta = w .delta;
       finished = eqb (r .step) 0;
-      contention = w .contention;
       steps = suc (w .steps);
       answer = cond (isRootRead a) (r .seen) 0;
       seconds = w .seconds + cond (isSecondLink a) 1 0;
@@ -122,12 +124,13 @@ takeStep h p st =
     let a : Access = accessOf h p r in
     let f : Effect = effect p r (st .memory) a in
     let r′ : Process = nextRecord h p r f in
+    let after : ℕ → Process = upd (st .process) p r′ in
     record {
       memory = f .memory;
-      process = upd (st .process) p r′;
+      process = after;
       operations = st .operations;
       row = upd (st .row) (r .operation) (rowAfter a r′ (length (st .history)) (st .row (r .operation)));
-      history = record { process = p; operation = r .operation; access = a; stored = f .stored } ∷ st .history;
+      history = record { process = p; operation = r .operation; access = a; stored = f .stored; busy = busyCount h after } ∷ st .history;
     }
 
 -- ---- the records, from first to last

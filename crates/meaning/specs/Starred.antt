@@ -92,18 +92,18 @@ cases =
     ∷ acceptance
     (recording 63
     (adds 0 5 ∷ adds 1 7 ∷ times 2 (step 0) ∷ times 2 (step 1) ∷ step 0 ∷ step 1 ∷ times 3 (step 0) ∷ times 7 (step 1) ∷ []))
-    (reportOf 44 12 (row 0 3 1 1 6 0 1 0 ∷ row 1 3 1 2 10 0 2 1 ∷ []))
-    "operations 2 counter 12\n0 add 1 1 6 0 1 0\n1 add 1 2 10 0 2 1\n"
+    (reportOf 44 12 (row 0 3 1 2 6 0 1 0 ∷ row 1 3 1 2 10 0 2 1 ∷ []))
+    "operations 2 counter 12\n0 add 1 2 6 0 1 0\n1 add 1 2 10 0 2 1\n"
     -- C: 1 reads 0 while 0's addition is in its leaf alone
     ∷ acceptance (recording 32 (adds 0 5 ∷ times 2 (step 0) ∷ reads 1 ∷ step 1 ∷ times 4 (step 0) ∷ []))
-    (reportOf 44 5 (row 0 3 1 1 6 0 2 0 ∷ row 1 2 1 2 1 0 1 0 ∷ []))
-    "operations 2 counter 5\n0 add 1 1 6 0 2 0\n1 read 1 2 1 0 1 0\n"
+    (reportOf 44 5 (row 0 3 1 2 6 0 2 0 ∷ row 1 2 1 2 1 0 1 0 ∷ []))
+    "operations 2 counter 5\n0 add 1 2 6 0 2 0\n1 read 1 2 1 0 1 0\n"
     -- D: 0 writes its leaf after 1 has read it, so that 1's store does not take 0's addition in
     ∷ acceptance
     (recording 57
     (adds 1 7 ∷ times 4 (step 1) ∷ adds 0 5 ∷ times 2 (step 0) ∷ times 2 (step 1) ∷ reads 1 ∷ step 1 ∷ times 4 (step 0) ∷ []))
-    (reportOf 64 12 (row 1 3 1 1 6 0 1 0 ∷ row 0 3 1 2 6 0 3 0 ∷ row 1 2 1 2 1 7 2 0 ∷ []))
-    "operations 3 counter 12\n1 add 1 1 6 0 1 0\n0 add 1 2 6 0 3 0\n1 read 1 2 1 7 2 0\n"
+    (reportOf 64 12 (row 1 3 1 2 6 0 1 0 ∷ row 0 3 1 2 6 0 3 0 ∷ row 1 2 1 2 1 7 2 0 ∷ []))
+    "operations 3 counter 12\n1 add 1 2 6 0 1 0\n0 add 1 2 6 0 3 0\n1 read 1 2 1 7 2 0\n"
     -- E: the sum wraps
     ∷ acceptance
     (recording 51
@@ -112,8 +112,8 @@ cases =
     "operations 2 counter 1\n0 add 1 1 6 0 1 0\n0 add 1 1 6 0 2 0\n"
     -- F: 0 stops after its leaf write, and 1's store takes its addition in
     ∷ acceptance (recording 39 (adds 0 5 ∷ times 2 (step 0) ∷ adds 1 7 ∷ times 6 (step 1) ∷ []))
-    (reportOf 44 12 (row 0 3 0 1 2 0 1 0 ∷ row 1 3 1 2 6 0 2 0 ∷ []))
-    "operations 2 counter 12\n0 add 0 1 2 0 1 0\n1 add 1 2 6 0 2 0\n"
+    (reportOf 44 12 (row 0 3 0 2 2 0 1 0 ∷ row 1 3 1 2 6 0 2 0 ∷ []))
+    "operations 2 counter 12\n0 add 0 2 2 0 1 0\n1 add 1 2 6 0 2 0\n"
     ∷ []
 
 -- ---- the two sides

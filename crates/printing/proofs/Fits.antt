@@ -4,14 +4,15 @@ use native.Mathlib.Omega.{arith}
 use mathlib.Core.Path.{_≡_, refl}
 use mathlib.Core.Bool.{Bool, true, false, cond}
 use mathlib.Core.List.{List, []}
-use Rattle.sets.specs.Processes.{nobody, countBelow}
+use lib.Dec.{eqb}
+use Rattle.sets.specs.Processes.{nobody}
 use Rattle.cell.specs.Cell.{State as Cell, readOf, loadLinked, storeConditional}
 use Rattle.arrays.proofs.Laws.{upd-cases}
 use Rattle.meaning.specs.Layout.{height}
-use Rattle.meaning.specs.Tree.{root, processes}
+use Rattle.meaning.specs.Tree.{root}
 use Rattle.meaning.specs.Access.{Access, starts, readsRoot, readsLeaf, writesLeaf, links, readsLeft, readsRight, stores, isRootRead, isSecondLink}
 use Rattle.meaning.specs.Steps.{upd, Memory, Process, idle, cellAt, withCell, withValue, plus, onward, sawIt, sawLeft, sawRight, atStep, effect, nextRecord}
-use Rattle.meaning.specs.Run.{State, blank, initial, busy, started, kindOf, newRow, start, rowAfter, takeStep, accepted, outcome}
+use Rattle.meaning.specs.Run.{State, blank, initial, started, kindOf, newRow, start, rowAfter, takeStep, accepted, outcome}
 use Rattle.meaning.specs.TakenIn.{listed, rank}
 use Rattle.ledger.specs.Kept.{Kept}
 use Rattle.ledger.proofs.Good.{Good, Stepping, accessBy, effectBy, recordAfter, by-process, by-stepper, started-row, stepped-row}
@@ -57,8 +58,11 @@ record Below (h : ℕ) (st : State) : Type 0 where
   seen : (p : ℕ) → st .process p .seen < 2 ^ 32
   answers : (i : ℕ) → st .row i .answer < 2 ^ 32
   seconds : (i : ℕ) → st .row i .seconds ≤ st .row i .steps
+  -- what a replay would keep whose rows show no contention
+  shown : ℕ → ℕ
+  none : (i : ℕ) → shown i ≡ 0
   kept : Kept
-  keeps : Keeps h st kept
+  keeps : Keeps h st shown kept
   total : Total st kept
 
 abbrev nothing : Kept
@@ -72,14 +76,20 @@ below-initial h =
       seen = λ p. omega arith;
       answers = λ i. omega arith;
       seconds = λ i. omega arith;
+      shown = λ i. 0;
+      none = λ i. refl;
       kept = nothing;
-      keeps = keeps-initial h nothing (λ l q. refl) refl refl;
+      keeps = keeps-initial h (λ i. 0) nothing (λ l q. refl) refl refl;
       total = total-initial nothing refl refl;
     }
 
 answer-small : (t : Bool) (v : ℕ) → v < 2 ^ 32 → cond t v 0 < 2 ^ 32
 answer-small true v b = b
 answer-small false v b = omega arith
+
+neither : (t : Bool) → _≡_ {A = ℕ} (cond t 0 0) 0
+neither true = refl
+neither false = refl
 
 one-more : (t : Bool) (a b : ℕ) → a ≤ b → a + cond t 1 0 ≤ suc b
 one-more true a b le = omega arith
@@ -101,9 +111,11 @@ module _ (h p : ℕ) (st : State) (s : Stepping h p st) (k : Below h st) where
         seen = by-stepper h p st s (λ q r. r .seen < 2 ^ 32) seen-after (λ q n. k .seen q);
         answers = λ i. stepped-row h p st s i (λ w. w .answer < 2 ^ 32) (λ e. answer-small (isRootRead (accessBy h p st)) _ seen-after) (λ n. k .answers i);
         seconds = λ i. stepped-row h p st s i (λ w. w .seconds ≤ w .steps) (λ e. one-more (isSecondLink (accessBy h p st)) _ _ (k .seconds (st .process p .operation))) (λ n. k .seconds i);
+        shown = _;
+        none = λ i. upd-cases (k .shown) (st .process p .operation) _ (λ n. n ≡ 0) i (λ e. neither (eqb (recordAfter h p st .step) 0)) (λ n. k .none i);
         kept = _;
-        keeps = keeps-step h p st s (k .kept) (k .keeps);
-        total = total-step h p st s (k .kept) (k .keeps) (k .total);
+        keeps = keeps-step h p st s (k .shown) (k .kept) (k .keeps) (k .none (st .process p .operation)) 0;
+        total = total-step h p st s (k .shown) (k .kept) (k .keeps) (k .total) 0;
       }
 
 module _ (h p : ℕ) (adds : Bool) (delta : ℕ) (st : State) (g : Good h st) (inside : p < 2 ^ h) (free : st .process p .step ≡ 0) (room : st .operations < 1024) (k : Below h st) where
@@ -115,9 +127,11 @@ module _ (h p : ℕ) (adds : Bool) (delta : ℕ) (st : State) (g : Good h st) (i
         seen = by-process h p adds delta st g inside free room (λ q r. r .seen < 2 ^ 32) (omega arith) (λ q n. k .seen q);
         answers = λ i. started-row h p adds delta st g inside free room i (λ w. w .answer < 2 ^ 32) (omega arith) (λ n. k .answers i);
         seconds = λ i. started-row h p adds delta st g inside free room i (λ w. w .seconds ≤ w .steps) (omega arith) (λ n. k .seconds i);
+        shown = _;
+        none = λ i. upd-cases (k .shown) (st .operations) 0 (λ n. n ≡ 0) i (λ e. refl) (λ n. k .none i);
         kept = _;
-        keeps = keeps-start h p adds delta st g inside free room (k .kept) (k .keeps);
-        total = total-start h p adds delta st g (k .kept) (k .total) (kindOf adds) (countBelow (processes h) (busy (start h p adds delta st .process)));
+        keeps = keeps-start h p adds delta st g inside free room (k .shown) (k .kept) (k .keeps);
+        total = total-start h p adds delta st g (k .kept) (k .total) (kindOf adds);
       }
 
 -- ---- of every accepted recording

@@ -14,6 +14,7 @@ use Rattle.rows.proofs.Laws.{length-rowsBytes}
 use Rattle.meaning.specs.Layout.{height}
 use Rattle.meaning.specs.Tree.{root}
 use Rattle.meaning.specs.Run.{Row, State, Outcome, refused, accepted, outcome}
+use Rattle.meaning.specs.Contention.{contention}
 use Rattle.meaning.specs.TakenIn.{rank}
 use Rattle.meaning.specs.Report.{one, rowBytes, rowsBytes, reportBytes, needed, passes, answerWith, bufferWith, reportAnswer, reportBuffer}
 use Rattle.meaning.specs.Printed.{rowLine, rowLines, printedOf, printed}
@@ -28,12 +29,12 @@ use Rattle.printing.proofs.Fits.{Fits, accepted-fits}
 
 -- ---- a row
 
-module _ (w : Row) (r : ℕ) (steps : w .steps < 2 ^ 32) (answer : w .answer < 2 ^ 32) (rank : r < 2 ^ 32) (seconds : w .seconds < 2 ^ 32) (rest : List ℕ) where
+module _ (w : Row) (c r : ℕ) (steps : w .steps < 2 ^ 32) (answer : w .answer < 2 ^ 32) (rank : r < 2 ^ 32) (seconds : w .seconds < 2 ^ 32) (rest : List ℕ) where
   abbrev bytes : List ℕ
-  bytes = w .process ∷ w .kind ∷ one (w .finished) ∷ w .contention ∷ []
+  bytes = w .process ∷ w .kind ∷ one (w .finished) ∷ c ∷ []
 
   abbrev row : List ℕ
-  row = rowBytes w r ++ rest
+  row = rowBytes w c r ++ rest
 
   row-steps : numberAt row 4 ≡ w .steps
   unfolding rowBytes fourBytes
@@ -52,7 +53,7 @@ module _ (w : Row) (r : ℕ) (steps : w .steps < 2 ^ 32) (answer : w .answer < 2
   row-seconds = number-of-bytes-there (bytes ++ fourBytes (w .steps) ++ fourBytes (w .answer) ++ fourBytes r) (w .seconds) rest seconds
 
   -- the row's line, wherever its bytes stand
-  row-shown : (front : List ℕ) → rowText (front ++ row) (length front) ≡ rowLine w r
+  row-shown : (front : List ℕ) → rowText (front ++ row) (length front) ≡ rowLine w c r
   unfolding rowText rowLine kindText rowBytes
   row-shown front =
       let byte = getD-append-add front row in
@@ -68,15 +69,16 @@ module _ (h : ℕ) (st : State) (fits : Fits h st) where
   rows-shown front nine zero rest = refl
   rows-shown front nine (suc k) rest =
       let w : Row = st .row k in
+      let c : ℕ = contention w (st .history) in
       let r : ℕ = rank h (st .history) k in
       let before : List ℕ = front ++ rowsBytes h st k in
       let long : length before ≡ 9 + 20 * k = length-append front (rowsBytes h st k) ∙ omega (arith, length-rowsBytes h st k) in
-      let all : front ++ (rowsBytes h st k ++ rowBytes w r ++ rest) ≡ before ++ (rowBytes w r ++ rest) =
-      ap (λ (l : List ℕ). front ++ l) (append-assoc (rowsBytes h st k) (rowBytes w r) rest) ∙ sym (append-assoc front (rowsBytes h st k) (rowBytes w r ++ rest)) in
+      let all : front ++ (rowsBytes h st k ++ rowBytes w c r ++ rest) ≡ before ++ (rowBytes w c r ++ rest) =
+      ap (λ (l : List ℕ). front ++ l) (append-assoc (rowsBytes h st k) (rowBytes w c r) rest) ∙ sym (append-assoc front (rowsBytes h st k) (rowBytes w c r ++ rest)) in
       ap₂ (λ (a b : List ℕ). a ++ b)
-      (ap (λ (l : List ℕ). rowTexts l k) (ap (λ (l : List ℕ). front ++ l) (append-assoc (rowsBytes h st k) (rowBytes w r) rest)) ∙ rows-shown front nine k (rowBytes w r ++ rest))
+      (ap (λ (l : List ℕ). rowTexts l k) (ap (λ (l : List ℕ). front ++ l) (append-assoc (rowsBytes h st k) (rowBytes w c r) rest)) ∙ rows-shown front nine k (rowBytes w c r ++ rest))
       (ap₂ (λ (l : List ℕ) (n : ℕ). rowText l n) all (sym long)
-      ∙ row-shown w r (fits .steps k) (fits .answer k) (fits .rank k) (fits .seconds k) rest before)
+      ∙ row-shown w c r (fits .steps k) (fits .answer k) (fits .rank k) (fits .seconds k) rest before)
 
   abbrev report : List ℕ → List ℕ
   report rest = reportBytes h st ++ rest

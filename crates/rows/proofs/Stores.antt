@@ -1,16 +1,18 @@
--- Numbers stored one after another, as `sets` of the list: what stands where afterwards, a row of five, and four bytes.
-use Prim.Native.Nat.{ℕ, zero, suc, _+_, _*_, _≤_, _<_}
-use mathlib.Core.Path.{_≡_, refl, sym, _∙_}
+-- Numbers stored one after another, as `sets` of the list: what stands where afterwards, a row of five, and four bytes; and one row closed.
+use Prim.Native.Nat.{ℕ, zero, suc, _+_, _*_, _/_, _%_, _^_, _≤_, _<_}
+use mathlib.Core.Bool.{true, false}
+use mathlib.Core.Path.{_≡_, refl, sym, ap, _∙_}
 use mathlib.Core.List.{List, [], _∷_, _++_, append-assoc, append-nil}
 use native.Mathlib.Omega.{arith}
 use native.Mathlib.Nat.{add-zero}
 use native.Mathlib.Numerals.{add-one}
 use lib.ListN.{length, getD, take, drop, set, length-set, length-append, take-append-drop}
 use lib.Seq.{sets, sets-eq, set-split, length-take-le, getD-set-same, getD-set-other, take-at, drop-at, drop-drop}
+use borrow.Author.Tests.{eq-eqb, ne-eqb}
 use Rattle.arrays.specs.Arrays.{asFun}
 use Rattle.recording.specs.Numbers.{fourBytes}
-use Rattle.rows.specs.Rows.{withRow, numbersBytes, laidAt, laidReport}
-use Rattle.rows.proofs.Laws.{withRow-is, length-numbersBytes}
+use Rattle.rows.specs.Rows.{withRow, unfinishedBy, processBy, closedNumber, closed, numbersBytes, laidAt, laidReport}
+use Rattle.rows.proofs.Laws.{withRow-is, closed-other, closed-next, length-numbersBytes}
 
 sets-else : (vs l : List ℕ) (n j : ℕ) → ((k : ℕ) → k < length vs → j ≡ n + k → ⊥) → getD (sets l n vs) j 0 ≡ getD l j 0
 sets-else [] l n j away = refl
@@ -49,6 +51,28 @@ row-stored l i a b c d e room =
     rw (five-stored l (5 * i) a b c d e)
     (withRow-is (asFun l) i ns (asFun (sets l (5 * i) ns)) (λ k h. sets-there ns l (5 * i) k room h)
     (λ j n. sets-else ns l (5 * i) j (λ k h e. n (omega arith))))
+
+-- the turn of row i, when those before it are closed
+module _ (greatest f : ℕ → ℕ) (i : ℕ) (l : List ℕ) (before : asFun l ≡ closed greatest i f) where
+  pub first-number : getD l (5 * i) 0 ≡ f (5 * i)
+  unfolding asFun
+  first-number = ap (λ (g : ℕ → ℕ). g (5 * i)) before ∙ closed-other greatest i f (5 * i) (λ h e. omega arith)
+
+  pub finished-stays : (getD l (5 * i) 0 / 2 ^ 8 % 2 ^ 8 ≡ 0 → ⊥) → asFun l ≡ closed greatest (i + 1) f
+  unfolding asFun closedNumber unfinishedBy
+  finished-stays n =
+      let kept : unfinishedBy (f (5 * i)) ≡ false = rw first-number at (ne-eqb (getD l (5 * i) 0 / 2 ^ 8 % 2 ^ 8) 0 n) in
+      closed-next greatest f i (asFun l) (rw (kept, add-zero) first-number) (λ j other. ap (λ (g : ℕ → ℕ). g j) before)
+
+  pub unfinished-stored : 5 * i < length l → getD l (5 * i) 0 / 2 ^ 8 % 2 ^ 8 ≡ 0
+      → asFun (set l (5 * i) (getD l (5 * i) 0 + greatest (processBy (getD l (5 * i) 0)))) ≡ closed greatest (i + 1) f
+  unfolding asFun closedNumber unfinishedBy
+  unfinished-stored room e =
+      let n : ℕ = getD l (5 * i) 0 in
+      let kept : unfinishedBy (f (5 * i)) ≡ true = rw first-number at (eq-eqb (n / 2 ^ 8 % 2 ^ 8) 0 e) in
+      closed-next greatest f i (asFun (set l (5 * i) (n + greatest (processBy n))))
+      (getD-set-same l (5 * i) (n + greatest (processBy n)) 0 room ∙ rw (kept, first-number))
+      (λ j other. getD-set-other l (5 * i) j (n + greatest (processBy n)) 0 other ∙ ap (λ (g : ℕ → ℕ). g j) before)
 
 pub bytes-stored : (l : List ℕ) (n a b c d : ℕ) → n + 4 ≤ length l
     → set (set (set (set l n a) (n + 1) b) (n + 2) c) (n + 3) d ≡ laidAt l n 4 (a ∷ b ∷ c ∷ d ∷ [])

@@ -1,9 +1,9 @@
 -- A row as five numbers, and all rows as one array of them: row i from number 5i on. The report is the bytes of these numbers in order.
 use Prim.Native.Nat.{ℕ, zero, suc, _+_, _*_, _/_, _%_, _^_, _<_}
-use mathlib.Core.Bool.{Bool, cond}
+use mathlib.Core.Bool.{Bool, cond, _&&_}
 use mathlib.Core.List.{List, [], _∷_, _++_}
 use lib.ListN.{getD, take, drop}
-use lib.Dec.{eqb}
+use lib.Dec.{ltb, eqb}
 use Rattle.recording.specs.Numbers.{fourBytes}
 use Rattle.meaning.specs.Run.{Row}
 use Rattle.meaning.specs.Report.{one}
@@ -13,28 +13,52 @@ unfoldable pub head : ℕ → ℕ → ℕ → ℕ → ℕ
 head process kind finished contention = process * 2 ^ 24 + kind * 2 ^ 16 + finished * 2 ^ 8 + contention
 
 -- the five numbers of a row
-unfoldable pub rowNumbers : Row → ℕ → List ℕ
-rowNumbers w rank = head (w .process) (w .kind) (one (w .finished)) (w .contention) ∷ w .steps ∷ w .answer ∷ rank ∷ w .seconds ∷ []
+unfoldable pub rowNumbers : Row → ℕ → ℕ → List ℕ
+rowNumbers w contention rank = head (w .process) (w .kind) (one (w .finished)) contention ∷ w .steps ∷ w .answer ∷ rank ∷ w .seconds ∷ []
 
 -- f, but these numbers as row i
 unfoldable pub withRow : (ℕ → ℕ) → ℕ → List ℕ → ℕ → ℕ
 withRow f i ns j = cond (eqb (j / 5) i) (getD ns (j % 5) 0) (f j)
 
--- a row right after its start record
-unfoldable pub freshNumbers : ℕ → ℕ → ℕ → List ℕ
-freshNumbers process kind contention = head process kind 0 contention ∷ 0 ∷ 0 ∷ 0 ∷ 0 ∷ []
+-- a row right after its start record; its contention is not put in before it finishes
+unfoldable pub freshNumbers : ℕ → ℕ → List ℕ
+freshNumbers process kind = head process kind 0 0 ∷ 0 ∷ 0 ∷ 0 ∷ 0 ∷ []
 
--- row i of f after one more step
-unfoldable pub steppedNumbers : (ℕ → ℕ) → ℕ → Bool → ℕ → Bool → List ℕ
-steppedNumbers f i finished answer second =
-    (f (5 * i) + one finished * 2 ^ 8) ∷ (f (5 * i + 1) + 1) ∷ answer ∷ f (5 * i + 3) ∷ (f (5 * i + 4) + one second) ∷ []
+-- row i of f after one more step; the last one puts the contention in
+unfoldable pub steppedNumbers : (ℕ → ℕ) → ℕ → Bool → ℕ → ℕ → Bool → List ℕ
+steppedNumbers f i finished contention answer second =
+    (f (5 * i) + one finished * (2 ^ 8 + contention)) ∷ (f (5 * i + 1) + 1) ∷ answer ∷ f (5 * i + 3) ∷ (f (5 * i + 4) + one second) ∷ []
 
 -- room for that in each number
 pub record RoomToStep (f : ℕ → ℕ) (i : ℕ) : Type 0 where
   pub row : i < 1024
-  pub head : f (5 * i) + 2 ^ 8 < 2 ^ 32
+  pub head : f (5 * i) + 2 ^ 9 < 2 ^ 32
   pub steps : f (5 * i + 1) + 1 < 2 ^ 32
   pub seconds : f (5 * i + 4) + 1 < 2 ^ 32
+
+-- ---- the end: each unfinished row gets the contention that is kept for its process
+
+-- of a row's first number: whether it is finished, and its process
+unfoldable pub unfinishedBy : ℕ → Bool
+unfinishedBy n = eqb (n / 2 ^ 8 % 2 ^ 8) 0
+
+unfoldable pub processBy : ℕ → ℕ
+processBy n = n / 2 ^ 24
+
+-- the first number of an unfinished row with the contention of its process put in
+unfoldable pub closedNumber : (ℕ → ℕ) → ℕ → ℕ
+closedNumber greatest n = n + cond (unfinishedBy n) (greatest (processBy n)) 0
+
+-- f, but with the first k rows closed
+unfoldable pub closed : (ℕ → ℕ) → ℕ → (ℕ → ℕ) → ℕ → ℕ
+closed greatest k f j = cond (ltb j (5 * k) && eqb (j % 5) 0) (closedNumber greatest (f j)) (f j)
+
+-- room for that in the first numbers of m rows, each of a process of which a contention is kept
+pub record RoomToClose (f : ℕ → ℕ) (m size : ℕ) : Type 0 where
+  pub process : (i : ℕ) → i < m → processBy (f (5 * i)) < size
+  pub head : (i : ℕ) → i < m → f (5 * i) + 2 ^ 8 < 2 ^ 32
+
+-- ---- the bytes
 
 -- the bytes of the first k numbers of f
 unfoldable pub numbersBytes : (ℕ → ℕ) → ℕ → List ℕ

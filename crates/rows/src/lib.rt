@@ -1,19 +1,26 @@
 // The report's rows as numbers, five a row, and their bytes.
 use recording::number;
-ghost use Prim.Native.Nat.{_+_, _*_, _≤_, _<_};
+ghost use Prim.Native.Nat.{_+_, _*_, _^_, _≤_, _<_};
 ghost use mathlib.Core.Path.{_≡_};
 ghost use mathlib.Core.List.{[], _∷_};
 ghost use lib.ListN.{length};
 ghost use Rattle.recording.specs.Numbers.{fourBytes};
 ghost use Rattle.meaning.specs.Report.{one};
 ghost use Rattle.arrays.specs.Arrays.{asFun};
-ghost use Rattle.rows.specs.Rows.{freshNumbers, steppedNumbers, withRow, RoomToStep, numbersBytes, laidAt, laidReport};
+ghost use Rattle.rows.specs.Rows.{freshNumbers, steppedNumbers, withRow, RoomToStep, RoomToClose, closed, numbersBytes, laidAt, laidReport};
 
 // 1 if so, 0 if not.
 fn counted(b: bool) -> u32
     ensures { λ r. ⌜ (r ≡ one b) × (r ≤ 1) ⌝ }
 {
     if b { 1 } else { 0 }
+}
+
+// What a step adds to a row's first number: the last one the finished byte and the contention, any other nothing.
+fn ending(finished: bool, contention: u8) -> u32
+    ensures { λ r. ⌜ (r ≡ one finished * (2 ^ 8 + contention)) × (r < 2 ^ 9) ⌝ }
+{
+    if finished { 256 + contention as u32 } else { 0 }
 }
 
 // Five numbers as row i.
@@ -30,24 +37,45 @@ fn lay_row(rows: &mut [u32], i: usize, head: u32, steps: u32, answer: u32, rank:
 }
 
 // Row i right after its start record.
-pub fn start_row(rows: &mut [u32], i: usize, p: u8, kind: u8, contention: u8)
+pub fn start_row(rows: &mut [u32], i: usize, p: u8, kind: u8)
     requires { ⌜ (i < 1024) × (5 * i + 5 ≤ length (now rows)) ⌝ }
-    ensures { λ r. ⌜ asFun (now (rows .exit)) ≡ withRow (asFun (now (rows .entry))) i (freshNumbers p kind contention) ⌝ }
+    ensures { λ r. ⌜ asFun (now (rows .exit)) ≡ withRow (asFun (now (rows .entry))) i (freshNumbers p kind) ⌝ }
 {
-    lay_row(rows, i, number(p, kind, 0, contention), 0, 0, 0, 0);
+    lay_row(rows, i, number(p, kind, 0, 0), 0, 0, 0, 0);
 }
 
-// Row i after one more step.
-pub fn step_row(rows: &mut [u32], i: usize, finished: bool, answer: u32, second: bool)
+// Row i after one more step; the last one puts the contention in.
+pub fn step_row(
+    rows: &mut [u32],
+    i: usize,
+    finished: bool,
+    contention: u8,
+    answer: u32,
+    second: bool,
+)
     requires { ⌜ RoomToStep (asFun (now rows)) i × (5 * i + 5 ≤ length (now rows)) ⌝ }
-    ensures { λ r. ⌜ asFun (now (rows .exit)) ≡ withRow (asFun (now (rows .entry))) i (steppedNumbers (asFun (now (rows .entry))) i finished answer second) ⌝ }
+    ensures { λ r. ⌜ asFun (now (rows .exit)) ≡ withRow (asFun (now (rows .entry))) i (steppedNumbers (asFun (now (rows .entry))) i finished contention answer second) ⌝ }
 {
     let at = 5 * i;
-    let head = rows[at] + counted(finished) * 256;
+    let head = rows[at] + ending(finished, contention);
     let steps = rows[at + 1] + 1;
     let rank = rows[at + 3];
     let seconds = rows[at + 4] + counted(second);
     lay_row(rows, i, head, steps, answer, rank, seconds);
+}
+
+// The first m rows at the end: an unfinished one gets the contention kept for its process.
+pub fn close(rows: &mut [u32], m: usize, greatest: &[u8])
+    requires { ⌜ (m ≤ 1024) × (5 * m ≤ length (now rows)) × RoomToClose (asFun (now rows)) m (length (now greatest)) ⌝ }
+    ensures { λ r. ⌜ asFun (now (rows .exit)) ≡ closed (asFun (now (greatest .entry))) m (asFun (now (rows .entry))) ⌝ }
+{
+    for i in 0..m {
+        let head = rows[5 * i];
+        if head / 256 % 256 == 0 {
+            let p = (head / 16777216) as usize;
+            rows[5 * i] = head + greatest[p] as u32;
+        }
+    }
 }
 
 // Four bytes of x, the highest first, from place at on.

@@ -39,15 +39,18 @@ slice-aggregate-run-3 c = search needs
 slice-aggregate-run-4 : tie.Need-slice-aggregate-run-4
 slice-aggregate-run-4 c = search needs
 
+slice-aggregate-run-5 : tie.Need-slice-aggregate-run-5
+slice-aggregate-run-5 c = search needs
+
 run-requires : tie.Need-run-requires
 unfolding height
 run-requires c κs =
-    let w = header-passes _ (sym ((c .before .before .before .before .before .before .header) .ensures) ∙ (c .before .before .before .before .before .if1) .left) in (w .high, w .low, w .enough, w .short, λ a. absurd (false-true a))
+    let w = header-passes _ (sym ((c .before .before .before .before .before .before .before .header) .ensures) ∙ (c .before .before .before .before .before .before .if1) .left) in (w .high, w .low, w .enough, w .short, λ a. absurd (false-true a))
 
 returns-2 : tie.Need-returns-2
 unfolding checkAnswer answerOf height
 returns-2 c =
-    check-ends _ _ _ _ _ ((c .before .before .before .before .run) .ensures) ∙ ap checkWith (sym (head-passed _ _ ((c .before .before .before .before .before .before .before .before .before .before .before .header) .ensures) ((c .before .before .before .before .before .before .before .before .before .before .if1) .left)))
+    check-ends _ _ _ _ _ ((c .before .before .before .before .before .run) .ensures) ∙ ap checkWith (sym (head-passed _ _ ((c .before .before .before .before .before .before .before .before .before .before .before .before .before .header) .ensures) ((c .before .before .before .before .before .before .before .before .before .before .before .before .if1) .left)))
 
 pub check-spec : {M : Type 1} → statement M
 check-spec =
@@ -61,5 +64,6 @@ check-spec =
     slice-aggregate-run-2
     slice-aggregate-run-3
     slice-aggregate-run-4
+    slice-aggregate-run-5
     run-requires
     returns-2)

@@ -16,10 +16,13 @@ cast-run : tie.Need-cast-run
 cast-run c =
     omega (arith, (c .shared-slice-known2) .given 5)
 
+slice-aggregate-run : tie.Need-slice-aggregate-run
+slice-aggregate-run c = search needs
+
 run-requires : tie.Need-run-requires
 unfolding height
 run-requires c κs =
-    let w = header-passes _ ((c .before .before .before .before .before .before .before .before .before .before .pre) .0) in (w .high, w .low, w .enough, w .short, λ a. (c .before .before .before .before .before .before .before .before .before .before .pre) .1)
+    let w = header-passes _ ((c .before .before .before .before .before .before .before .before .before .before .before .pre) .0) in (w .high, w .low, w .enough, w .short, λ a. ((c .before .before .before .before .before .before .before .before .before .before .before .pre) .1, omega arith))
 
 cast-m : tie.Need-cast-m
 cast-m c = search needs
@@ -32,7 +35,7 @@ add-needed c = search needs
 
 cast-place : tie.Need-cast-place
 cast-place c =
-    omega (arith, few-operations _ _ _ _ (header-passes _ ((c .before .before .before .before .before .before .before .before .before .before .before .before .before .before .before .before .before .before .before .before .before .before .pre) .0) .enough) ((c .before .before .before .before .before .before .before .before .before .before .before .run) .ensures))
+    omega (arith, few-operations _ _ _ _ (header-passes _ ((c .before .before .before .before .before .before .before .before .before .before .before .before .before .before .before .before .before .before .before .before .before .before .before .before .pre) .0) .enough) ((c .before .before .before .before .before .before .before .before .before .before .before .before .run) .ensures))
 
 same-length : tie.Need-same-length
 same-length c = search needs
@@ -49,13 +52,13 @@ same-length-4 c = search needs
 returns : tie.Need-returns
 unfolding height
 returns c =
-    report-short _ _ _ _ _ _ refl (head-passed _ _ (sym ((c .before .before .before .before .before .before .before .before .before .before .before .before .before .before .before .before .before .before .before .before .before .before .pre) .0)) refl) ((c .before .before .before .before .before .before .before .before .before .before .before .run) .ensures) (omega (arith, (c .before .if1) .taken)) (omega (arith, (c .if2) .taken))
+    report-short _ _ _ _ _ _ refl (head-passed _ _ (sym ((c .before .before .before .before .before .before .before .before .before .before .before .before .before .before .before .before .before .before .before .before .before .before .before .before .pre) .0)) refl) ((c .before .before .before .before .before .before .before .before .before .before .before .before .run) .ensures) (omega (arith, (c .before .if1) .taken)) (omega (arith, (c .if2) .taken))
 
 lay-report-requires : tie.Need-lay-report-requires
 lay-report-requires c κs =
-    let room = (c .before .before .before .before .before .before .before .before .before .before .before .before .before .before .before .before .before .before .before .before .before .before .before .before .pre) .1 in
-    let f = few-operations _ _ _ _ (header-passes _ ((c .before .before .before .before .before .before .before .before .before .before .before .before .before .before .before .before .before .before .before .before .before .before .before .before .pre) .0) .enough) ((c .before .before .before .before .before .before .before .before .before .before .before .before .before .run) .ensures) in
-    (omega (arith, f .0), omega (arith, (c .before .before .before .before .before .before .before .before .before .before .before .before .before .run) .kept, room .sizes .rowsFit, room .operations _ (f .0) (f .1)), omega (arith, (c .before .before .if2) .left))
+    let room = (c .before .before .before .before .before .before .before .before .before .before .before .before .before .before .before .before .before .before .before .before .before .before .before .before .before .before .pre) .1 in
+    let f = few-operations _ _ _ _ (header-passes _ ((c .before .before .before .before .before .before .before .before .before .before .before .before .before .before .before .before .before .before .before .before .before .before .before .before .before .before .pre) .0) .enough) ((c .before .before .before .before .before .before .before .before .before .before .before .before .before .before .run) .ensures) in
+    (omega (arith, f .0), omega (arith, (c .before .before .before .before .before .before .before .before .before .before .before .before .before .before .run) .kept, room .sizes .rowsFit, room .operations _ (f .0) (f .1)), omega (arith, (c .before .before .if2) .left))
 
 same-length-5 : tie.Need-same-length-5
 same-length-5 c = search needs
@@ -75,7 +78,7 @@ same-length-9 c = search needs
 returns-2 : tie.Need-returns-2
 unfolding height
 returns-2 c =
-    report-laid _ _ _ _ _ _ refl _ (head-passed _ _ (sym ((c .before .before .before .before .before .before .before .before .before .before .before .before .before .before .before .before .before .before .before .before .before .before .before .before .before .before .before .pre) .0)) refl) ((c .before .before .before .before .before .before .before .before .before .before .before .before .before .before .before .before .run) .ensures) (omega (arith, (c .before .before .before .before .before .before .if1) .taken)) (omega (arith, (c .before .before .before .before .before .if2) .left)) ((c .before .before .lay-report) .ensures)
+    report-laid _ _ _ _ _ _ refl _ (head-passed _ _ (sym ((c .before .before .before .before .before .before .before .before .before .before .before .before .before .before .before .before .before .before .before .before .before .before .before .before .before .before .before .before .before .pre) .0)) refl) ((c .before .before .before .before .before .before .before .before .before .before .before .before .before .before .before .before .before .run) .ensures) (omega (arith, (c .before .before .before .before .before .before .if1) .taken)) (omega (arith, (c .before .before .before .before .before .if2) .left)) ((c .before .before .lay-report) .ensures)
 
 same-length-10 : tie.Need-same-length-10
 same-length-10 c = search needs
@@ -92,7 +95,7 @@ same-length-13 c = search needs
 returns-3 : tie.Need-returns-3
 unfolding height
 returns-3 c =
-    report-refused _ _ _ _ _ _ refl (head-passed _ _ (sym ((c .before .before .before .before .before .before .before .before .before .before .before .before .before .before .before .before .before .before .before .before .before .pre) .0)) refl) ((c .before .before .before .before .before .before .before .before .before .before .run) .ensures) (λ z. omega (arith, (c .if1) .left))
+    report-refused _ _ _ _ _ _ refl (head-passed _ _ (sym ((c .before .before .before .before .before .before .before .before .before .before .before .before .before .before .before .before .before .before .before .before .before .before .before .pre) .0)) refl) ((c .before .before .before .before .before .before .before .before .before .before .before .run) .ensures) (λ z. omega (arith, (c .if1) .left))
 
 pub report-in-spec : {M : Type 1} → statement M
 report-in-spec =
@@ -100,6 +103,7 @@ report-in-spec =
     (tie.spec
     shared-slice-read-run
     cast-run
+    slice-aggregate-run
     run-requires
     cast-m
     mul-needed

@@ -15,15 +15,18 @@ cast-i : tie.Need-cast-i
 cast-i c = search needs
 
 place-addition-requires : tie.Need-place-addition-requires
-place-addition-requires c κs = can-place (c .before .before .before .before .before .before .before .before .before .before .before .before .before .pre (c .before .before .before .before .before .before .before .before .before .if1 .taken))
+place-addition-requires c κs = can-place (c .before .before .before .before .before .before .before .before .before .before .before .before .before .before .pre (c .before .before .before .before .before .before .before .before .before .if1 .taken))
+
+shared-slice-read-step-row : tie.Need-shared-slice-read-step-row
+shared-slice-read-step-row c = omega (arith, c .before .before .before .before .before .before .before .before .before .before .before .before .before .before .before .before .before .before .before .before .before .before .before .before .pre (c .before .before .before .before .before .before .before .before .before .before .before .before .before .before .before .before .before .before .before .if1 .taken) .most)
 
 second-link-requires : tie.Need-second-link-requires
 second-link-requires c κs = search needs
 
 step-row-requires : tie.Need-step-row-requires
 step-row-requires c κs =
-    let can = c .before .before .before .before .before .before .before .before .before .before .before .before .before .before .before .before .before .before .before .before .before .before .before .pre (c .before .before .before .before .before .before .before .before .before .before .before .before .before .before .before .before .before .before .before .if1 .taken) in
-    let placed = c .before .before .before .before .before .before .before .before .before .place-addition in
+    let can = c .before .before .before .before .before .before .before .before .before .before .before .before .before .before .before .before .before .before .before .before .before .before .before .before .before .pre (c .before .before .before .before .before .before .before .before .before .before .before .before .before .before .before .before .before .before .before .before .if1 .taken) in
+    let placed = c .before .before .before .before .before .before .before .before .before .before .place-addition in
     (addition-room _ _ _ _ _ _ _ _ _ _ _ _ _ _ _ _ _ _ (placed .ensures) (can .row), omega (arith, placed .kept, can .operation, can .queue .sizes .rowsFit))
 
 same-length : tie.Need-same-length
@@ -42,18 +45,21 @@ returns : tie.Need-returns
 unfolding processOf
 returns c =
     λ _.
-    row-steps _ _ _ _ _ _ _ _ _ _ _ _ (rw (c .before .before .before .second-link .ensures) at (c .before .before .step-row .ensures))
-    ∙ ap (rowThen _ _ _ _) (c .before .before .before .before .before .before .before .before .before .before .before .before .place-addition .ensures) ∙ sym (addition-step _ _ _ _ _ _ (c .before .before .before .before .before .before .before .before .before .before .before .before .before .before .before .before .before .before .before .if2 .taken))
+    row-steps _ _ _ _ _ _ _ _ _ _ _ _ _ _ (rw (c .before .before .before .second-link .ensures) at (c .before .before .step-row .ensures))
+    ∙ ap (rowThen _ _ _ _ _) (c .before .before .before .before .before .before .before .before .before .before .before .before .before .place-addition .ensures) ∙ sym (addition-step _ _ _ _ _ _ _ (c .before .before .before .before .before .before .before .before .before .before .before .before .before .before .before .before .before .before .before .before .if2 .taken))
 
 place-read-requires : tie.Need-place-read-requires
 place-read-requires c κs =
-    let can = c .before .before .before .before .before .before .before .before .pre (c .before .before .before .before .if1 .taken) in
+    let can = c .before .before .before .before .before .before .before .before .before .pre (c .before .before .before .before .if1 .taken) in
     (can .row .row, omega (arith, can .operation, can .queue .sizes .rowsFit), can .ranks)
+
+shared-slice-read-step-row-2 : tie.Need-shared-slice-read-step-row-2
+shared-slice-read-step-row-2 c = omega (arith, c .before .before .before .before .before .before .before .before .before .before .before .before .before .before .pre (c .before .before .before .before .before .before .before .before .before .if1 .taken) .most)
 
 step-row-requires-2 : tie.Need-step-row-requires-2
 step-row-requires-2 c κs =
-    let can = c .before .before .before .before .before .before .before .before .before .before .before .before .pre (c .before .before .before .before .before .before .before .before .if1 .taken) in
-    let placed = c .before .before .before .place-read in
+    let can = c .before .before .before .before .before .before .before .before .before .before .before .before .before .before .pre (c .before .before .before .before .before .before .before .before .before .if1 .taken) in
+    let placed = c .before .before .before .before .place-read in
     (room-stays _ (can .row) (λ j n. ap (λ f. f j) (placed .ensures .rows) ∙ ranked-beside _ _ _ j n), omega (arith, placed .kept, can .operation, can .queue .sizes .rowsFit))
 
 same-length-5 : tie.Need-same-length-5
@@ -63,8 +69,8 @@ returns-2 : tie.Need-returns-2
 unfolding processOf
 returns-2 c =
     λ _.
-    row-steps _ _ _ _ _ _ _ _ _ _ _ _ (c .before .before .step-row2 .ensures)
-    ∙ ap (rowThen _ _ _ _) (reads _ _ _ _ _ _ _ _ (c .before .before .before .before .before .before .place-read .ensures)) ∙ sym (read-step _ _ _ _ _ _ (c .before .before .before .before .before .before .before .before .if2 .left))
+    row-steps _ _ _ _ _ _ _ _ _ _ _ _ _ _ (c .before .before .step-row2 .ensures)
+    ∙ ap (rowThen _ _ _ _ _) (reads _ _ _ _ _ _ _ _ (c .before .before .before .before .before .before .before .place-read .ensures)) ∙ sym (read-step _ _ _ _ _ _ _ (c .before .before .before .before .before .before .before .before .before .if2 .left))
 
 returns-3 : tie.Need-returns-3
 returns-3 c = λ e. absurd (false-true (sym (c .if1 .left) ∙ e))
@@ -75,6 +81,7 @@ keep-step-spec =
     (tie.spec
     cast-i
     place-addition-requires
+    shared-slice-read-step-row
     second-link-requires
     step-row-requires
     same-length
@@ -83,6 +90,7 @@ keep-step-spec =
     same-length-4
     returns
     place-read-requires
+    shared-slice-read-step-row-2
     step-row-requires-2
     same-length-5
     returns-2

@@ -1,7 +1,7 @@
 -- `step_row`: the row laid anew, each number from the old one; the room that the caller shows is that of each sum.
+use native.Mathlib.Omega.{arith}
 use Rattle.arrays.specs.Arrays.{asFun}
 use Rattle.rows.specs.Rows.{steppedNumbers}
-use native.Mathlib.Omega.{arith}
 use borrow.Author.Needs.{needs}
 use Rattle.rows.proofs.step_row.Statement.{statement}
 use Rattle.rows.proofs.step_row.Tie as tie
@@ -15,11 +15,8 @@ mul-head c = search needs
 slice-read-head : tie.Need-slice-read-head
 slice-read-head c = search needs
 
-counted-requires : tie.Need-counted-requires
-counted-requires c κs = search needs
-
-mul-head-2 : tie.Need-mul-head-2
-mul-head-2 c = search needs
+ending-requires : tie.Need-ending-requires
+ending-requires c κs = search needs
 
 add-head : tie.Need-add-head
 unfolding asFun
@@ -57,8 +54,8 @@ mul-seconds c = search needs
 slice-read-seconds : tie.Need-slice-read-seconds
 slice-read-seconds c = search needs
 
-counted-requires-2 : tie.Need-counted-requires-2
-counted-requires-2 c κs = search needs
+counted-requires : tie.Need-counted-requires
+counted-requires c κs = search needs
 
 add-seconds-2 : tie.Need-add-seconds-2
 unfolding asFun
@@ -74,7 +71,7 @@ same-length c = search needs
 returns : tie.Need-returns
 unfolding asFun steppedNumbers
 returns c =
-    rw ((c .before .before .before .before .before .before .before .before .counted) .ensures .0, (c .before .before .before .before .counted2) .ensures .0) at ((c .before .before .lay-row) .ensures)
+    rw ((c .before .before .before .before .before .before .before .before .ending) .ensures .0, (c .before .before .before .before .counted) .ensures .0) at ((c .before .before .lay-row) .ensures)
 
 pub step-row-spec : {M : Type 1} → statement M
 step-row-spec =
@@ -83,8 +80,7 @@ step-row-spec =
     mul-at
     mul-head
     slice-read-head
-    counted-requires
-    mul-head-2
+    ending-requires
     add-head
     add-steps
     mul-steps
@@ -96,7 +92,7 @@ step-row-spec =
     add-seconds
     mul-seconds
     slice-read-seconds
-    counted-requires-2
+    counted-requires
     add-seconds-2
     lay-row-requires
     same-length

@@ -1,0 +1,5 @@
+pub mod Raised
+pub mod Laws
+pub mod Busy
+pub mod Greatest
+pub mod UnderWay
