@@ -232,7 +232,9 @@ fn print_all(cases: &[Case], generated: mpsc::Receiver<Printed>, failing: &Mutex
 fn call_all(cases: &[Case], options: &Options, to_print: mpsc::Sender<Printed>, failing: &Mutex<Failing>) -> Tally {
     let mut entries = Entries::new(CALLER.into());
     for case in cases {
-        if let Err(disagreement) = entries.compare_case(case) {
+        let accepted = second::check(&case.rec).number == 0;
+        let hold = || if accepted { hold_contention(&case.rec, &Model::replayed(&case.rec)) } else { Ok(()) };
+        if let Err(disagreement) = entries.compare_case(case).and_then(|()| hold()) {
             let name = name_of_case(case);
             failing.lock().unwrap().add(&name, &name, &case.rec, &disagreement);
         }

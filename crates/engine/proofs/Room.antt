@@ -27,7 +27,7 @@ use Rattle.listing.specs.Queue.{queueOf, CanList}
 use Rattle.listing.specs.declared.Listed.{Listed}
 use Rattle.listing.proofs.Laws.{All, none, more, length-queueOf, operations-all}
 use Rattle.ledger.specs.Kept.{Kept}
-use Rattle.ledger.proofs.Good.{Good}
+use Rattle.ledger.proofs.Good.{Good, at-most-one}
 use Rattle.ledger.proofs.Did.{did, did-leaf}
 use Rattle.ledger.proofs.Kept.{mem-keep}
 use Rattle.ledger.proofs.Waiters.{waiter-writes}
@@ -63,10 +63,6 @@ count-less k p s b e =
     or-none true = refl
     or-none false = refl
 
-finished-small : (t : Bool) → cond t 1 0 ≤ 1
-finished-small true = omega arith
-finished-small false = omega arith
-
 last-small : (h : ℕ) (adds : Bool) → h ≤ 6 → lastStep h adds ≤ 50
 unfolding lastStep
 last-small h true b = omega arith
@@ -75,6 +71,19 @@ last-small h false b = omega arith
 leaf-count : (counts read : List (List ℕ)) (writes : List ℕ) (h p : ℕ) (es : List Entry) → countsOf counts writes read .inNode 0 p ≡ countIn h 0 p es → asFun writes p ≡ writesBy p es
 unfolding countsOf levels countIn
 leaf-count counts read writes h p es e = e
+
+-- each row is of a process of 64, and has room for a contention
+module _ (h : ℕ) (st : State) (counts : List (List ℕ)) (writes : List ℕ) (read : List (List ℕ)) (queue turns rows : List ℕ) (l : Listed) (greatest : ℕ → ℕ) (g : Good h st)
+    (L : Ledger h st (keptOf counts writes read queue turns rows l) greatest) where
+  head-small : (i : ℕ) → i < st .operations → asFun rows (5 * i) < 64 * 2 ^ 24
+  unfolding keptOf rowNumbers head one
+  head-small i b =
+      let first = ap (asFun rows) (sym (add-zero (5 * i))) ∙ L .keeps .rows i 0 b (omega arith) in
+      omega (arith, first, at-most-one (st .row i .finished), g .owners i, g .fits i .kind, shown-small h st (L .shown) greatest g (L .most) i b)
+
+  pub can-close : (m size : ℕ) → m ≡ st .operations → 64 ≤ size → RoomToClose (asFun rows) m size
+  unfolding processBy
+  can-close m size same all = record { process = λ i b. omega (arith, head-small i (omega arith)); head = λ i b. omega (arith, head-small i (omega arith)) }
 
 module _ (s : List ℕ) (h at : ℕ) (st : State) (vals links : List ℕ) (ps : List Record) (set₀ m : ℕ) (counts : List (List ℕ)) (writes : List ℕ) (read : List (List ℕ)) (queue turns rows greatest : List ℕ) (l : Listed)
     (A : Agrees h at st vals links ps set₀ m) (L : Ledger h st (keptOf counts writes read queue turns rows l) (asFun greatest)) (p : ℕ) (inside : p < 2 ^ h) (acting : isIn set₀ p ≡ true) (within : at ≤ length s)
@@ -147,7 +156,7 @@ module _ (s : List ℕ) (h at : ℕ) (st : State) (vals links : List ℕ) (ps : 
       }
 
   room-in-row : RoomToStep (asFun rows) (getD ps p idleRecord .operation)
-  unfolding keptOf rowNumbers head one
+  unfolding keptOf rowNumbers
   room-in-row = subst (λ (o : ℕ). RoomToStep (asFun rows) o) (sym its-operation) at-row
     where
       o : ℕ
@@ -156,14 +165,11 @@ module _ (s : List ℕ) (h at : ℕ) (st : State) (vals links : List ℕ) (ps : 
       started : o < st .operations
       started = A .good .owns p (stepping h at st vals links ps set₀ m A p inside acting .acts)
 
-      first-number : asFun rows (5 * o) ≡ st .row o .process * 2 ^ 24 + st .row o .kind * 2 ^ 16 + cond (st .row o .finished) 1 0 * 2 ^ 8 + L .shown o
-      first-number = ap (asFun rows) (sym (add-zero (5 * o))) ∙ L .keeps .rows o 0 started (omega arith)
-
       at-row : RoomToStep (asFun rows) o
       at-row =
           record {
             row = omega (arith, started, A .good .few);
-            head = omega (arith, first-number, finished-small (st .row o .finished), A .good .owners o, A .good .fits o .kind, shown-small h st (L .shown) (asFun greatest) (A .good) (L .most) o started);
+            head = omega (arith, head-small h st counts writes read queue turns rows l (asFun greatest) (A .good) L o started);
             steps = omega (arith, L .keeps .rows o 1 started (omega arith), A .good .steps o, A .place, within, short);
             seconds = omega (arith, L .keeps .rows o 4 started (omega arith), A .good .seconds o, A .place, within, short);
           }
@@ -184,19 +190,6 @@ module _ (s : List ℕ) (h at : ℕ) (st : State) (vals links : List ℕ) (ps : 
         ranks = omega (arith, sizes, A .good .few);
         row = room-in-row;
       }
-
--- at the end: each row is of a process of 64, and has room for a contention
-module _ (h : ℕ) (st : State) (counts : List (List ℕ)) (writes : List ℕ) (read : List (List ℕ)) (queue turns rows : List ℕ) (l : Listed) (greatest : ℕ → ℕ) (g : Good h st)
-    (L : Ledger h st (keptOf counts writes read queue turns rows l) greatest) where
-  head-small : (i : ℕ) → i < st .operations → asFun rows (5 * i) < 64 * 2 ^ 24
-  unfolding keptOf rowNumbers head one
-  head-small i b =
-      let first = ap (asFun rows) (sym (add-zero (5 * i))) ∙ L .keeps .rows i 0 b (omega arith) in
-      omega (arith, first, finished-small (st .row i .finished), g .owners i, g .fits i .kind, shown-small h st (L .shown) greatest g (L .most) i b)
-
-  pub can-close : (m size : ℕ) → m ≡ st .operations → 64 ≤ size → RoomToClose (asFun rows) m size
-  unfolding processBy
-  can-close m size same all = record { process = λ i b. omega (arith, head-small i (omega arith)); head = λ i b. omega (arith, head-small i (omega arith)) }
 
 -- the lent arrays keep their lengths
 pub record Same (read₀ read : List (List ℕ)) (queue₀ queue turns₀ turns rows₀ rows greatest₀ greatest : List ℕ) : Type 0 where

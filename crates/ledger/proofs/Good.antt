@@ -24,7 +24,7 @@ use Rattle.ledger.proofs.Did.{did, did-leaf, did-other, did-not, did-ca
 pub false-true : false ≡ true → ⊥
 false-true e = let z : _≡_ {A = ℕ} 0 1 = cc in omega arith
 
-at-most-one : (t : Bool) → cond t 1 0 ≤ 1
+pub at-most-one : (t : Bool) → cond t 1 0 ≤ 1
 at-most-one true = omega arith
 at-most-one false = omega arith
 
