@@ -1,34 +1,43 @@
 /* Times the proved library and the second program on the same buffers. Each file of recordings is gone through by the one and by the other
- * in turn, in several rounds; the medians are printed. The report buffer is the same for all and is not cleared between calls. */
+ * in turn, in several rounds; the medians are printed. The buffers are the same for all and are not cleared between calls. */
 #define _POSIX_C_SOURCE 199309L /* for clock_gettime */
 
 #include "ilvrotse.h"
+#include "second.h"
 
 #include <stdio.h>
 #include <stdlib.h>
 #include <string.h>
 #include <time.h>
 
-/* The second program, through bench/second.rs. */
-ilvrotse_answer second_check(const uint8_t *rec, size_t len);
-ilvrotse_answer second_report(const uint8_t *rec, size_t len, uint8_t *out, size_t room);
-
 #define ROUNDS 11
+#define DRAWER_ROUNDS 5
 #define LEAST_SECONDS 0.03
 #define ROOM (9 + 20 * 1024)
+#define LONGEST_DRAWER 16777216
+#define ENOUGH 7 /* bytes of reports for each byte of a drawer are always enough */
 
+/* A recording or a drawer, and the bytes of the report buffer that is lent with it. */
 struct recording {
     const uint8_t *bytes;
     size_t len;
+    size_t room;
 };
 
+/* The count is of what is lent: a drawer is one, of several recordings. */
 struct recordings {
     struct recording *each;
     size_t count;
+    size_t in_drawers;
     size_t records;
 };
 
-static uint8_t out[ROOM], other[ROOM];
+struct buffers {
+    uint8_t out[ENOUGH * LONGEST_DRAWER];
+    uint8_t marks[LONGEST_DRAWER];
+};
+
+static struct buffers ours, other;
 
 static void fail(const char *what, const char *name)
 {
@@ -46,7 +55,7 @@ static size_t records_of(struct recording rec)
     return count;
 }
 
-static struct recordings load(const char *folder, const char *name)
+static FILE *opened(const char *folder, const char *name)
 {
     char path[512];
     if (snprintf(path, sizeof path, "%s/%s", folder, name) >= (int)sizeof path)
@@ -54,7 +63,13 @@ static struct recordings load(const char *folder, const char *name)
     FILE *file = fopen(path, "rb");
     if (file == NULL)
         fail("cannot be opened", name);
-    struct recordings all = {NULL, 0, 0};
+    return file;
+}
+
+static struct recordings load(const char *folder, const char *name)
+{
+    FILE *file = opened(folder, name);
+    struct recordings all = {NULL, 0, 0, 0};
     unsigned char head[4];
     while (fread(head, 1, 4, file) == 4) {
         size_t len = (size_t)head[0] | (size_t)head[1] << 8 | (size_t)head[2] << 16 | (size_t)head[3] << 24;
@@ -62,7 +77,7 @@ static struct recordings load(const char *folder, const char *name)
         all.each = realloc(all.each, (all.count + 1) * sizeof *all.each);
         if (bytes == NULL || all.each == NULL || fread(bytes, 1, len, file) != len)
             fail("cannot be read", name);
-        struct recording rec = {bytes, len};
+        struct recording rec = {bytes, len, ROOM};
         all.each[all.count++] = rec;
         all.records += records_of(rec);
     }
@@ -72,30 +87,67 @@ static struct recordings load(const char *folder, const char *name)
     return all;
 }
 
-enum entry { PROVED_CHECK, SECOND_CHECK, PROVED_REPORT, SECOND_REPORT };
+static struct recording load_drawer(const char *folder, const char *name)
+{
+    FILE *file = opened(folder, name);
+    uint8_t *bytes = malloc(LONGEST_DRAWER);
+    if (bytes == NULL)
+        fail("no memory", name);
+    size_t len = fread(bytes, 1, LONGEST_DRAWER, file);
+    fclose(file);
+    if (len == 0)
+        fail("is empty", name);
+    struct recording drawer = {bytes, len, ENOUGH * len};
+    return drawer;
+}
+
+/* The drawer as so many, cut between recordings into parts of about the same length. */
+static struct recordings parts_of(struct recording drawer, size_t parts)
+{
+    struct recordings all = {calloc(parts, sizeof *all.each), 0, 0, 0};
+    if (all.each == NULL)
+        fail("no memory", "drawer");
+    const uint8_t *end = drawer.bytes + drawer.len, *first = drawer.bytes;
+    for (const uint8_t *at = first; at < end;) {
+        struct recording rec = {at, 5 + ((size_t)at[1] << 24 | (size_t)at[2] << 16 | (size_t)at[3] << 8 | at[4]), 0};
+        all.in_drawers++;
+        all.records += records_of(rec);
+        at += rec.len;
+        if ((size_t)(at - drawer.bytes) >= (all.count + 1) * drawer.len / parts) {
+            struct recording part = {first, (size_t)(at - first), ENOUGH * (size_t)(at - first)};
+            all.each[all.count++] = part;
+            first = at;
+        }
+    }
+    return all;
+}
+
+enum entry { PROVED_CHECK, SECOND_CHECK, PROVED_REPORT, SECOND_REPORT, PROVED_DRAWER, SECOND_DRAWER };
+
+static ilvrotse_answer call(enum entry entry, struct recording rec, struct buffers *to)
+{
+    switch (entry) {
+    case PROVED_CHECK:
+        return ilvrotse_check(rec.bytes, rec.len);
+    case SECOND_CHECK:
+        return second_check(rec.bytes, rec.len);
+    case PROVED_REPORT:
+        return ilvrotse_report(rec.bytes, rec.len, to->out, rec.room);
+    case SECOND_REPORT:
+        return second_report(rec.bytes, rec.len, to->out, rec.room);
+    case PROVED_DRAWER:
+        return ilvrotse_drawer(rec.bytes, rec.len, to->out, rec.room, to->marks, rec.len);
+    default:
+        return second_drawer(rec.bytes, rec.len, to->out, rec.room, to->marks, rec.len);
+    }
+}
 
 /* The sum of the answers keeps the calls from being left out. */
 static uint32_t go_through(enum entry entry, struct recordings all)
 {
     uint32_t sum = 0;
     for (size_t i = 0; i < all.count; i++) {
-        const uint8_t *rec = all.each[i].bytes;
-        size_t len = all.each[i].len;
-        ilvrotse_answer answer = {0, 0};
-        switch (entry) {
-        case PROVED_CHECK:
-            answer = ilvrotse_check(rec, len);
-            break;
-        case SECOND_CHECK:
-            answer = second_check(rec, len);
-            break;
-        case PROVED_REPORT:
-            answer = ilvrotse_report(rec, len, out, ROOM);
-            break;
-        case SECOND_REPORT:
-            answer = second_report(rec, len, out, ROOM);
-            break;
-        }
+        ilvrotse_answer answer = call(entry, all.each[i], &ours);
         sum += answer.number + answer.place;
     }
     return sum;
@@ -133,35 +185,37 @@ static int by_size(const void *one, const void *another)
     return (a > b) - (a < b);
 }
 
-static double median(double *of)
+static double median(double *of, size_t count)
 {
-    qsort(of, ROUNDS, sizeof *of, by_size);
-    return of[ROUNDS / 2];
+    qsort(of, count, sizeof *of, by_size);
+    return of[count / 2];
 }
 
 static void compare(const char *what, const char *unit, size_t units, enum entry proved, enum entry second, struct recordings all)
 {
     double by_proved[ROUNDS], by_second[ROUNDS];
+    size_t rounds = proved == PROVED_DRAWER ? DRAWER_ROUNDS : ROUNDS;
     size_t proved_times = times_enough(proved, all), second_times = times_enough(second, all);
-    for (int round = 0; round < ROUNDS; round++) {
+    for (size_t round = 0; round < rounds; round++) {
         by_proved[round] = timed(proved, all, proved_times) / (double)units;
         by_second[round] = timed(second, all, second_times) / (double)units;
     }
-    double p = median(by_proved), s = median(by_second);
-    printf("%-42s %9.2f %9.2f ns per %-6s %7.2f\n", what, p, s, unit, p / s);
+    double p = median(by_proved, rounds), s = median(by_second, rounds);
+    printf("%-50s %9.2f %9.2f ns per %-9s %7.2f\n", what, p, s, unit, p / s);
     fflush(stdout);
 }
 
-static void same_answers(const char *name, struct recordings all)
+/* It touches the buffers too, so that no page of them is new to the calls that are timed. */
+static void same_answers(const char *name, enum entry proved, enum entry second, struct recordings all)
 {
     for (size_t i = 0; i < all.count; i++) {
-        const uint8_t *rec = all.each[i].bytes;
-        size_t len = all.each[i].len;
-        memset(out, 0, ROOM);
-        memset(other, 0, ROOM);
-        ilvrotse_answer a = ilvrotse_report(rec, len, out, ROOM), b = second_report(rec, len, other, ROOM);
-        ilvrotse_answer c = ilvrotse_check(rec, len), d = second_check(rec, len);
-        if (a.number != b.number || a.place != b.place || c.number != d.number || c.place != d.place || memcmp(out, other, ROOM) != 0)
+        size_t len = all.each[i].len, room = all.each[i].room;
+        memset(ours.out, 0, room);
+        memset(other.out, 0, room);
+        memset(ours.marks, 0, len);
+        memset(other.marks, 0, len);
+        ilvrotse_answer a = call(proved, all.each[i], &ours), b = call(second, all.each[i], &other);
+        if (a.number != b.number || a.place != b.place || memcmp(ours.out, other.out, room) != 0 || memcmp(ours.marks, other.marks, len) != 0)
             fail("the two programs answer differently", name);
     }
 }
@@ -169,7 +223,8 @@ static void same_answers(const char *name, struct recordings all)
 static void bench(const char *folder, const char *name, const char *words, int per_call)
 {
     struct recordings all = load(folder, name);
-    same_answers(name, all);
+    same_answers(name, PROVED_REPORT, SECOND_REPORT, all);
+    same_answers(name, PROVED_CHECK, SECOND_CHECK, all);
     const char *unit = per_call ? "call" : "record";
     size_t units = per_call ? all.count : all.records;
     char line[128];
@@ -182,13 +237,48 @@ static void bench(const char *folder, const char *name, const char *words, int p
     free(all.each);
 }
 
+/* Each part is lent exactly the bytes that its reports need. */
+static void lend_exact_room(struct recordings all)
+{
+    for (size_t i = 0; i < all.count; i++) {
+        all.each[i].room = 0;
+        ilvrotse_answer answer = call(PROVED_DRAWER, all.each[i], &ours);
+        if (answer.number != 11)
+            fail("needs no room", "drawer");
+        all.each[i].room = answer.place;
+    }
+}
+
+static void bench_drawer(const char *folder, const char *name, const char *words, int per_recording)
+{
+    static const struct {
+        size_t parts;
+        int exact;
+        const char *words;
+    } lines[] = {{4, 0, "1/4"}, {2, 0, "1/2"}, {1, 0, "1"}, {1, 1, "1, exact room"}};
+    struct recording drawer = load_drawer(folder, name);
+    for (size_t i = 0; i < sizeof lines / sizeof *lines; i++) {
+        struct recordings all = parts_of(drawer, lines[i].parts);
+        if (lines[i].exact)
+            lend_exact_room(all);
+        same_answers(name, PROVED_DRAWER, SECOND_DRAWER, all);
+        const char *unit = per_recording ? "recording" : "record";
+        size_t units = per_recording ? all.in_drawers : all.records;
+        char line[128];
+        snprintf(line, sizeof line, "drawer, %s, %s", words, lines[i].words);
+        compare(line, unit, units, PROVED_DRAWER, SECOND_DRAWER, all);
+        free(all.each);
+    }
+    free((void *)drawer.bytes);
+}
+
 int main(int count, char **words)
 {
     if (count != 2)
         fail("wants the folder of recordings", "usage");
     const char *folder = words[1];
-    printf("medians of %d alternating rounds; the report buffer is not cleared between calls\n", ROUNDS);
-    printf("%-42s %9s %9s %13s %7s\n", "", "proved", "second", "", "ratio");
+    printf("medians of %d alternating rounds, for drawers of %d; no buffer is cleared between calls\n", ROUNDS, DRAWER_ROUNDS);
+    printf("%-50s %9s %9s %16s %7s\n", "", "proved", "second", "", "ratio");
     bench(folder, "storm-6-full", "h = 6, 65,536 bytes", 0);
     bench(folder, "storm-1-full", "h = 1, 1,024 operations", 0);
     bench(folder, "small", "2,000 recordings of 6 to 60 bytes", 1);
@@ -200,5 +290,9 @@ int main(int count, char **words)
     bench(folder, "storm-1-quarter", "h = 1, 1/4", 0);
     bench(folder, "storm-1-half", "h = 1, 1/2", 0);
     bench(folder, "storm-1-full", "h = 1, 1", 0);
+    printf("drawers at 1/4, 1/2 and 1 of 16 MiB, lent %d * len bytes for the reports, so that each recording is run once, or exact room:\n", ENOUGH);
+    bench_drawer(folder, "drawer-6", "six bytes each", 1);
+    bench_drawer(folder, "drawer-30", "storms of 30 bytes", 1);
+    bench_drawer(folder, "drawer-full", "storms of 65,536 bytes", 0);
     return 0;
 }

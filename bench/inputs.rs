@@ -1,4 +1,5 @@
-//! Writes the benchmark's recordings into a folder. A file is a row of recordings, each with its length, 4 bytes little-endian, before it.
+//! Writes the benchmark's recordings into a folder. A file is a row of recordings, each with its length, 4 bytes little-endian, before it; or
+//! a drawer, in which they stand end to end.
 
 // The tests' generator can do more than is asked of it here.
 #![allow(dead_code)]
@@ -27,6 +28,19 @@ fn write(folder: &Path, name: &str, recordings: &[Vec<u8>]) -> io::Result<()> {
     fs::write(folder.join(name), bytes)
 }
 
+/// As many recordings as the longest drawer holds; each is made of its number.
+fn write_drawer(folder: &Path, name: &str, mut made: impl FnMut(usize) -> Vec<u8>) -> io::Result<()> {
+    let mut bytes = vec![];
+    for number in 0.. {
+        let rec = made(number);
+        if bytes.len() + rec.len() > recording::LONGEST_DRAWER {
+            break;
+        }
+        bytes.extend(rec);
+    }
+    fs::write(folder.join(name), bytes)
+}
+
 fn main() -> io::Result<()> {
     let folder = env::args().nth(1).expect("the folder to write to");
     let folder = Path::new(&folder);
@@ -51,5 +65,10 @@ fn main() -> io::Result<()> {
     write(folder, "small", &small)?;
     let mut refused = generate::storm(&mut random, 6, full);
     refused[0] = 0;
-    write(folder, "refused", &[refused])
+    write(folder, "refused", &[refused])?;
+
+    let height = |number| 1 + number % 6;
+    write_drawer(folder, "drawer-6", |number| recording::recording(height(number) as u8, &[]))?;
+    write_drawer(folder, "drawer-30", |number| generate::storm(&mut random, height(number), 30))?;
+    write_drawer(folder, "drawer-full", |_| generate::storm(&mut random, 6, full))
 }

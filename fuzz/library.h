@@ -5,15 +5,16 @@
 
 #include "ilvrotse.h"
 
-#define AROUND 16u /* bytes before and after a report buffer */
+#define AROUND 16u /* bytes before and after a buffer */
 
 void library_begin(void);
-/* The recording of the calls that follow; and, after them, what it then is. */
+/* The recording or the drawer of the calls that follow; and, after them, what it then is. */
 void library_lend(const uint8_t *rec, size_t len);
 void library_give_back(uint8_t *rec, size_t len);
 ilvrotse_answer library_check(void);
-/* `bytes` are a buffer of `room` bytes with those around it; afterwards they are as the library left them. */
+/* `bytes` are a buffer of `room` bytes with those around it; afterwards they are as the library left them. So are `marks`. */
 ilvrotse_answer library_report(uint8_t *bytes, size_t room);
+ilvrotse_answer library_drawer(uint8_t *bytes, size_t room, uint8_t *marks, size_t marks_room);
 /* After each input: tells what of the library's code it was the first to reach. */
 void library_tell_reached(void);
 

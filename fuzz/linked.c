@@ -70,14 +70,15 @@ static void set_breakpoints(const char *path)
     }
 }
 
-static uint8_t *rec_end, *out_end;
+static uint8_t *rec_end, *out_end, *marks_end;
 static size_t rec_len;
 
 void library_begin(void)
 {
     rec_end = guarded_end();
     out_end = guarded_end();
-    if (rec_end == NULL || out_end == NULL)
+    marks_end = guarded_end();
+    if (rec_end == NULL || out_end == NULL || marks_end == NULL)
         stop("no memory");
     set_breakpoints(getenv("FUZZ_CODE"));
 }
@@ -104,6 +105,18 @@ ilvrotse_answer library_report(uint8_t *bytes, size_t room)
     memcpy(out_end - whole, bytes, whole);
     ilvrotse_answer answer = ilvrotse_report(rec_end - rec_len, rec_len, out_end - whole + AROUND, room);
     memcpy(bytes, out_end - whole, whole);
+    return answer;
+}
+
+ilvrotse_answer library_drawer(uint8_t *bytes, size_t room, uint8_t *marks, size_t marks_room)
+{
+    size_t whole = room + 2 * AROUND, marks_whole = marks_room + 2 * AROUND;
+    uint8_t *out = out_end - whole, *marked = marks_end - marks_whole;
+    memcpy(out, bytes, whole);
+    memcpy(marked, marks, marks_whole);
+    ilvrotse_answer answer = ilvrotse_drawer(rec_end - rec_len, rec_len, out + AROUND, room, marked + AROUND, marks_room);
+    memcpy(bytes, out, whole);
+    memcpy(marks, marked, marks_whole);
     return answer;
 }
 

@@ -84,6 +84,19 @@ ilvrotse_answer library_report(uint8_t *bytes, size_t room)
     return answer;
 }
 
+ilvrotse_answer library_drawer(uint8_t *bytes, size_t room, uint8_t *marks, size_t marks_room)
+{
+    size_t whole = room + 2 * AROUND, marks_whole = marks_room + 2 * AROUND;
+    tell(MARKS, AROUND, marks_room, AROUND);
+    give(marks, marks_whole);
+    tell(DRAWER, AROUND, room, AROUND);
+    give(bytes, whole);
+    ilvrotse_answer answer = answered();
+    take(bytes, whole);
+    take(marks, marks_whole);
+    return answer;
+}
+
 static FILE *logged;
 static unsigned long program;
 

@@ -1,28 +1,27 @@
-/* libFuzzer's target: an input is a recording, lent to the library's two entries and to the second program; where an answer or a byte of a
- * buffer differs, it stops, and libFuzzer keeps the input.
+/* libFuzzer's target: an input is a recording, and a drawer too, lent to the library's three entries and to the second program; where an
+ * answer or a byte of a buffer differs, it stops, and libFuzzer keeps the input.
  *
  * The second program is linked here and tells libFuzzer which of its branches an input takes; linked.c or piped.c has the library and tells
  * what of its code is reached for the first time. */
+#include "../bench/second.h"
+#include "input.h"
 #include "library.h"
 
 #include <stdio.h>
 #include <stdlib.h>
 #include <string.h>
 
-#define LONGEST (1u << 17)
 #define LARGEST_REPORT (9u + 20u * 1024u)
+#define LONGEST_DRAWER (1u << 24)
+#define MARK 5u
+#define MOST_ROOM (7u * LONGEST + 64u)
 #define FILL 0xa5
-#define MOST_CHECKED (1u << 20) /* bytes, in the repair of one input */
 
-ilvrotse_answer second_check(const uint8_t *rec, size_t len);
-ilvrotse_answer second_report(const uint8_t *rec, size_t len, uint8_t *out, size_t room);
-size_t LLVMFuzzerMutate(uint8_t *data, size_t size, size_t most);
 int LLVMFuzzerInitialize(int *words, char ***word);
 int LLVMFuzzerTestOneInput(const uint8_t *data, size_t size);
-size_t LLVMFuzzerCustomMutator(uint8_t *data, size_t size, size_t most, unsigned seed);
 
-/* What the run reached, printed at its end. */
-static unsigned long inputs, answers[12];
+/* What the run reached, printed at its end: how often each number was an answer, and a mark of an accepted drawer. */
+static unsigned long inputs, of_recordings[256], of_drawers[256], marked[256];
 
 void stop(const char *why)
 {
@@ -52,14 +51,22 @@ void code_reached(unsigned long at, size_t bytes)
             fresh[at - code_first] = reached[at - code_first] = 1;
 }
 
+static void print_counts(const char *what, const unsigned long *counts)
+{
+    for (int number = 0; number < 256; number++)
+        if (counts[number] != 0)
+            fprintf(stderr, "%s %d: %lu\n", what, number, counts[number]);
+}
+
 static void figures(void)
 {
     size_t size = code_after - code_first, bytes = 0;
     for (size_t i = 0; i < size; i++)
         bytes += reached[i];
     fprintf(stderr, "inputs: %lu\n", inputs);
-    for (int number = 0; number < 12; number++)
-        fprintf(stderr, "answered by %d: %lu\n", number, answers[number]);
+    print_counts("recordings answered by", of_recordings);
+    print_counts("drawers answered by", of_drawers);
+    print_counts("recordings of accepted drawers marked", marked);
     if (size == 0)
         return;
     fprintf(stderr, "bytes of the library's code reached: %zu of %zu; not reached:", bytes, size);
@@ -93,115 +100,108 @@ static void agree(const char *what, ilvrotse_answer library, ilvrotse_answer sec
     abort();
 }
 
+/* A buffer with the bytes around it, for the second program and for the library. */
+struct buffer {
+    size_t room;
+    uint8_t expected[2 * AROUND + MOST_ROOM], found[2 * AROUND + MOST_ROOM];
+};
+static struct buffer out, marks;
+
+static void fill(struct buffer *buffer, size_t room)
+{
+    buffer->room = room;
+    memset(buffer->expected, FILL, room + 2 * AROUND);
+    memset(buffer->found, FILL, room + 2 * AROUND);
+}
+
+static void same(const struct buffer *buffer, const char *what)
+{
+    if (memcmp(buffer->expected, buffer->found, buffer->room + 2 * AROUND) != 0)
+        stop(what);
+}
+
 static void compare_report(const uint8_t *rec, size_t len, size_t room)
 {
-    static uint8_t expected[2 * AROUND + LARGEST_REPORT + 64], found[sizeof expected];
-    size_t whole = room + 2 * AROUND;
-    memset(expected, FILL, whole);
-    memset(found, FILL, whole);
-    ilvrotse_answer second = second_report(rec, len, expected + AROUND, room);
-    agree("report", library_report(found, room), second);
-    if (memcmp(expected, found, whole) != 0)
-        stop("the report's buffer differs");
-    answers[second.number]++;
+    fill(&out, room);
+    ilvrotse_answer second = second_report(rec, len, out.expected + AROUND, room);
+    agree("report", library_report(out.found, room), second);
+    same(&out, "the report's buffer differs");
+    of_recordings[second.number % 256]++;
+}
+
+static void take_as_recording(const uint8_t *rec, size_t len)
+{
+    static uint8_t report[LARGEST_REPORT];
+    ilvrotse_answer check = second_check(rec, len);
+    agree("check", library_check(), check);
+    agree("the second program's check and report", check, second_report(rec, len, report, sizeof report));
+    if (check.number != 0) {
+        compare_report(rec, len, 40);
+    } else {
+        size_t needed = 5 + number_at(report + 1);
+        compare_report(rec, len, needed);
+        compare_report(rec, len, needed - 1);
+        compare_report(rec, len, needed + 17);
+    }
+}
+
+static ilvrotse_answer compare_drawer(const uint8_t *drawer, size_t len, size_t room, size_t marks_room)
+{
+    fill(&out, room);
+    fill(&marks, marks_room);
+    ilvrotse_answer second = second_drawer(drawer, len, out.expected + AROUND, room, marks.expected + AROUND, marks_room);
+    agree("drawer", library_drawer(out.found, room, marks.found, marks_room), second);
+    same(&out, "the drawer's buffer for reports differs");
+    same(&marks, "the drawer's buffer for marks differs");
+    of_drawers[second.number % 256]++;
+    return second;
+}
+
+/* First with more room than any drawer of this length needs, which tells what this one needs. */
+static void take_as_drawer(const uint8_t *drawer, size_t len)
+{
+    if (compare_drawer(drawer, len, 7 * len + 17, len + 17).number != 0)
+        return;
+    const uint8_t *report = out.expected + AROUND, *mark = marks.expected + AROUND;
+    size_t needed = 0, marks_needed = 0;
+    for (size_t at = 0; at < len; at += 5 + number_at(drawer + at + 1)) {
+        uint8_t number = mark[marks_needed];
+        marked[number]++;
+        marks_needed += MARK;
+        needed += number == 0 ? 5 + number_at(report + needed + 1) : 0;
+    }
+    compare_drawer(drawer, len, needed, marks_needed);
+    if (marks_needed > 0)
+        compare_drawer(drawer, len, needed, marks_needed - 1);
+    if (needed > 0) {
+        compare_drawer(drawer, len, needed - 1, marks_needed);
+        compare_drawer(drawer, len, needed - 1, marks_needed - 1);
+    }
+}
+
+static void take_too_long_a_drawer(void)
+{
+    static uint8_t drawer[LONGEST_DRAWER + 1];
+    library_lend(drawer, sizeof drawer);
+    compare_drawer(drawer, sizeof drawer, 40, 40);
 }
 
 int LLVMFuzzerTestOneInput(const uint8_t *data, size_t size)
 {
-    static uint8_t report[LARGEST_REPORT], back[LONGEST];
+    static uint8_t back[LONGEST];
     static const uint8_t none[1];
     const uint8_t *rec = size == 0 ? none : data;
     if (size > LONGEST)
         return -1;
     inputs++;
     library_lend(rec, size);
-    ilvrotse_answer check = second_check(rec, size);
-    agree("check", library_check(), check);
-    agree("the second program's check and report", check, second_report(rec, size, report, sizeof report));
-    if (check.number != 0) {
-        compare_report(rec, size, 40);
-    } else {
-        size_t needed = 5u + ((size_t)report[1] << 24 | (size_t)report[2] << 16 | (size_t)report[3] << 8 | report[4]);
-        compare_report(rec, size, needed);
-        compare_report(rec, size, needed - 1);
-        compare_report(rec, size, needed + 17);
-    }
+    take_as_recording(rec, size);
+    take_as_drawer(rec, size);
     library_give_back(back, size);
     if (memcmp(rec, back, size) != 0)
-        stop("the library wrote to the recording");
+        stop("the library wrote to the recording or the drawer");
+    if (size == 0) /* it has no byte to tell one by */
+        take_too_long_a_drawer();
     library_tell_reached();
     return 0;
-}
-
-/* ---- changes that keep a recording a recording */
-
-static void lay_length(uint8_t *s, size_t len)
-{
-    for (int i = 0; i < 4; i++)
-        s[1 + i] = (uint8_t)((len - 5) >> (24 - 8 * i));
-}
-
-/* Makes each record that is refused into one that is not, from first to last, a few hundred times at most, less often in a long input. */
-static size_t repaired(uint8_t *s, size_t len, size_t most)
-{
-    if (len < 6)
-        return len;
-    s[0] = 1;
-    if (s[5] == 0 || s[5] > 6)
-        s[5] = (uint8_t)(1 + s[5] % 6);
-    for (int turn = 0; turn < 400 && turn * len < MOST_CHECKED; turn++) {
-        lay_length(s, len);
-        ilvrotse_answer answer = second_check(s, len);
-        uint8_t *at = s + answer.place;
-        size_t left = len - answer.place;
-        switch (answer.number) {
-        case 6:
-            if (left < 3)
-                len = answer.place;
-            else if (left >= 7 && at[0] % 4 == 3)
-                at[0] = 6, at[1] = 3;
-            else
-                at[0] = 2, at[1] = 1;
-            break;
-        case 7:
-            at[2] &= (uint8_t)((1u << s[5]) - 1);
-            break;
-        case 8: /* a step for the start */
-            if (at[0] == 6) {
-                memmove(at + 3, at + 7, left - 7);
-                len -= 4;
-            }
-            at[0] = 2, at[1] = 1;
-            break;
-        case 9: /* a start for the step: one in four a read */
-            if (turn % 4 == 0 || len + 4 > most) {
-                at[1] = 2;
-            } else {
-                memmove(at + 7, at + 3, left - 3);
-                len += 4;
-                at[0] = 6, at[1] = 3;
-                memset(at + 3, turn % 3 == 0 ? 255 : 0, 3);
-                at[6] = (uint8_t)(answer.place + 1);
-            }
-            break;
-        case 10:
-            len = answer.place;
-            break;
-        default:
-            return len;
-        }
-    }
-    return len;
-}
-
-size_t LLVMFuzzerCustomMutator(uint8_t *data, size_t size, size_t most, unsigned seed)
-{
-    size = LLVMFuzzerMutate(data, size, most);
-    if (seed % 4 == 0)
-        return size;
-    if (seed % 4 == 1 && size >= 6) { /* a true length and nothing else */
-        lay_length(data, size);
-        return size;
-    }
-    return repaired(data, size, most);
 }

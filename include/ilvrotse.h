@@ -1,8 +1,8 @@
-/* Ilvrotse: the replay of recordings of a mill's count. Two functions, no state, no allocation; safe to call from several threads.
+/* Ilvrotse: the replay of recordings of a mill's count. Three functions, no state, no allocation; safe to call from several threads.
  *
- * What a caller owes: `rec` points to `len` readable bytes, `out` to `room` writable ones, the two do not overlap, and both stay so during
- * the call. A pointer may be NULL where its length is 0. Nothing else: every byte string is answered, and no input is checked by the caller
- * first. */
+ * What a caller owes: `rec` or `drawer` points to `len` readable bytes, `out` to `room` writable ones, `marks` to `marks_room` writable ones,
+ * no two of them overlap, and all stay so during the call. A pointer may be NULL where its length is 0. Nothing else: every byte string is
+ * answered, and no input is checked by the caller first. */
 #ifndef ILVROTSE_H
 #define ILVROTSE_H
 
@@ -40,6 +40,24 @@ ilvrotse_answer ilvrotse_check(const uint8_t *rec, size_t len);
 /* The same, and on acceptance the report of 9 + 20 * operations bytes at the front of `out`; bytes after it stay as they were. On any
  * refusal every byte of `out` stays as it was. */
 ilvrotse_answer ilvrotse_report(const uint8_t *rec, size_t len, uint8_t *out, size_t room);
+
+/* A drawer: recordings end to end, each answered exactly as if run alone. It is cut by each L into pieces of 5 + L bytes, up to its end. On
+ * acceptance of the whole, number 0 and place 0,
+ *
+ *   `out`    has at its front the reports of the accepted pieces, one after another; a refused piece adds nothing
+ *   `marks`  has at its front 5 bytes for each piece in drawer order: its number, 0 if accepted, then its place, counted from the piece's own
+ *            byte 0, highest byte first
+ *
+ * and bytes after these stay as they were. An empty drawer is accepted and writes nothing. The whole drawer is refused, and every byte of both
+ * buffers stays as it was, by
+ *
+ *  19  longer than 16,777,216 bytes                                         place 0
+ *  12  1 to 4 bytes are left at a cut, or L passes the end                  the offset of that cut
+ *  11  `out` is shorter than the reports; then `marks` than the marks       the bytes needed
+ *
+ * in that order. 7 * len bytes of `out` and len of `marks` are always enough, and then each piece is run once; where `out` is shorter,
+ * pieces may be run a first time to measure. */
+ilvrotse_answer ilvrotse_drawer(const uint8_t *drawer, size_t len, uint8_t *out, size_t room, uint8_t *marks, size_t marks_room);
 
 #ifdef __cplusplus
 }

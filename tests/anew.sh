@@ -1,5 +1,6 @@
 #!/bin/sh
-# tools/replay and tools/install build anew where a source is newer than what was built, and only there; where that fails they answer nothing.
+# tools/replay, tools/drawer and tools/install build anew where a source is newer than what was built, and only there; where that fails they
+# answer nothing.
 # Tried in a copy whose rt copies what is built here, so that it takes no time. Run from the repository's root. Writes only under target/.
 set -eu
 cd "$(dirname "$0")/.."
@@ -7,6 +8,7 @@ cd "$(dirname "$0")/.."
 
 need_library
 need_replay
+need_drawer
 here=$PWD
 copy=$here/target/tests/anew
 rm -rf "$copy"
@@ -25,6 +27,7 @@ mkdir -p target/staticlib target/bin
 case \$* in
 'staticlib ilvrotse') cp "$here/$library" "$library" ;;
 'check replay') cp "$here/$replay" "$replay" ;;
+'check replay_drawer') cp "$here/$drawer" "$drawer" ;;
 *) exit 2 ;;
 esac
 RT
@@ -48,13 +51,16 @@ for source in crates/engine/src/lib.rt crates.txt; do
     asks $((builds + 1)) tools/replay recordings/c.rec
     cmp out recordings/c.txt
     asks $((builds + 1)) tools/replay recordings/c.rec
-    asks $((builds + 2)) tools/install prefix
-    asks $((builds + 2)) tools/install prefix
-    builds=$((builds + 2))
+    asks $((builds + 2)) tools/drawer recordings/shift.drawer
+    cmp out recordings/shift.txt
+    asks $((builds + 2)) tools/drawer recordings/shift.drawer
+    asks $((builds + 3)) tools/install prefix
+    asks $((builds + 3)) tools/install prefix
+    builds=$((builds + 3))
 done
 
 sleep 0.1
 touch crates/engine/src/lib.rt unproved
-for command in 'tools/replay recordings/c.rec' 'tools/install prefix'; do
+for command in 'tools/replay recordings/c.rec' 'tools/drawer recordings/shift.drawer' 'tools/install prefix'; do
     if $command >out 2>said || [ -s out ]; then fail "$command answers by what is older than a source that is not proved"; fi
 done

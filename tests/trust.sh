@@ -21,6 +21,8 @@ grep -q "| $sum lines, listed below |" "$page" || wrong "the definitions listed 
 for module in crates/{sets,cell,recording,meaning}/specs/*.antt; do
   [ "${module##*/}" = Lib.antt ] || grep -qF "\`$module\`" "$page" || wrong "$module is not listed"
 done
-program=$(wc -l <crates/replay/src/main.rt | tr -d ' ')
-grep -q "\`crates/replay/src/main.rt\`, $program lines" "$page" || wrong "crates/replay/src/main.rt has $program lines"
+for program in crates/replay/src/main.rt crates/replay_drawer/src/main.rt; do
+  lines=$(wc -l <"$program" | tr -d ' ')
+  grep -q "\`$program\`, $lines lines" "$page" || wrong "$program has $lines lines"
+done
 exit "$bad"

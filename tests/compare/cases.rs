@@ -9,6 +9,7 @@ pub type Row = [u32; 8];
 const READ_KIND: u32 = READ as u32;
 const ADD_KIND: u32 = ADD as u32;
 
+#[derive(Clone)]
 pub enum Expected {
     Refused { number: u32, place: u32 },
     Accepted { counter: u32, rows: Vec<Row> },
@@ -27,6 +28,13 @@ impl Expected {
         Some(bytes)
     }
 
+    pub fn mark(&self) -> Vec<u8> {
+        match self {
+            Expected::Refused { number, place } => [&[*number as u8][..], &place.to_be_bytes()].concat(),
+            Expected::Accepted { .. } => vec![0; MARK],
+        }
+    }
+
     pub fn printed(&self) -> String {
         match self {
             Expected::Refused { number, place } => format!("refused {number} {place}\n"),
@@ -42,6 +50,7 @@ impl Expected {
     }
 }
 
+#[derive(Clone)]
 pub struct Case {
     pub name: String,
     pub rec: Vec<u8>,

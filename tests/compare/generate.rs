@@ -1,4 +1,4 @@
-//! The generator: good recordings with many machines at the same nodes, the same damaged in every way, and random bytes.
+//! The generator: good recordings with many machines at the same nodes, the same damaged in every way, random bytes; and drawers of all these.
 
 use crate::model::Model;
 use crate::random::Random;
@@ -430,6 +430,86 @@ fn random_bytes(random: &mut Random) -> Input {
                 });
             }
             Input { kind: "random records", rec: recording(random.between(1, 3) as u8, &records) }
+        }
+    }
+}
+
+/// A recording that is cut as it is, whatever else is wrong with it.
+fn with_true_length(mut rec: Vec<u8>) -> Vec<u8> {
+    rec.resize(rec.len().max(5), 0);
+    set_true_length(&mut rec);
+    rec
+}
+
+fn junk(random: &mut Random) -> Vec<u8> {
+    let length = random.between(5, 60);
+    let mut rec: Vec<u8> = (0..length).map(|_| random.byte()).collect();
+    rec[0] = random.pick(&[1, 1, 1, rec[0]]);
+    with_true_length(rec)
+}
+
+fn recording_of_a_drawer(random: &mut Random) -> Vec<u8> {
+    match random.below(20) {
+        0..=10 => with_true_length(input(random).rec),
+        11..=14 => {
+            let (height, bytes) = (random.between(1, 6), random.between(20, 1_500));
+            storm(random, height, bytes)
+        }
+        15 | 16 => junk(random),
+        17 => recording(random.between(0, 7) as u8, &[]),
+        18 => vec![random.byte(), 0, 0, 0, 0],
+        // One that takes in the next.
+        _ => with_true_length([input(random).rec, junk(random)].concat()),
+    }
+}
+
+/// A drawer of recordings of every kind, often damaged where it is cut.
+pub fn drawer(random: &mut Random) -> Input {
+    let number = match random.below(20) {
+        0 => 0,
+        1..=18 => random.between(1, 9),
+        _ => random.between(10, 100),
+    };
+    let mut rec = vec![];
+    let mut places = vec![];
+    for _ in 0..number {
+        places.push(rec.len());
+        rec.extend(recording_of_a_drawer(random));
+    }
+    let kind = if places.is_empty() || random.chance(60) { "drawer, whole" } else { damage_a_drawer(random, &mut rec, &places) };
+    Input { kind, rec }
+}
+
+fn damage_a_drawer(random: &mut Random, rec: &mut Vec<u8>, places: &[usize]) -> &'static str {
+    let at = random.pick(places);
+    let left = (rec.len() - at) as u32;
+    match random.below(6) {
+        0 => {
+            rec.extend((0..random.between(1, 4)).map(|_| random.byte()));
+            "drawer, 1 to 4 bytes behind the last"
+        }
+        1 => {
+            rec.extend([random.byte(), 0, 0, 0, random.below(3) as u8]);
+            rec.extend((0..random.below(3)).map(|_| random.byte()));
+            "drawer, some five bytes behind the last"
+        }
+        2 => {
+            rec.truncate(random.below(rec.len()));
+            "drawer, cut short"
+        }
+        3 => {
+            let byte = &mut rec[at + 4];
+            *byte = random.pick(&[byte.wrapping_add(1), byte.wrapping_sub(1), byte.wrapping_add(5), byte.wrapping_sub(5)]);
+            "drawer, an L changed a little"
+        }
+        4 => {
+            set_length(&mut rec[at..], random.pick(&[0, 1, left - 5, left - 4, u32::MAX, u32::MAX - 4]));
+            "drawer, an L replaced"
+        }
+        _ => {
+            let byte = random.below(rec.len());
+            rec[byte] ^= 1 << random.below(8);
+            "drawer, a bit flipped"
         }
     }
 }

@@ -7,7 +7,7 @@
 #include <stdint.h>
 #include <sys/mman.h>
 
-#define LARGEST (1u << 20)
+#define LARGEST (1u << 26) /* the reports and marks of a drawer of the shortest recordings; only what is used takes memory */
 #define PAGE 65536u /* a multiple of every page size in use */
 
 /* The end of `LARGEST` such bytes; NULL where there is no memory. */

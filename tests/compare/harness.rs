@@ -1,5 +1,6 @@
 //! One input given to the proved library, to the second program and to the printing program.
 
+use crate::buffer::{hexadecimal, Buffer};
 use crate::cases::{Case, Expected};
 use crate::proved::{Lent, Proved};
 use second::Answer;
@@ -12,8 +13,7 @@ use std::thread;
 use std::time::{Duration, Instant};
 
 /// Room for every report, and more.
-const LARGE: usize = 9 + 20 * 1_024 + 100;
-const GUARD: usize = 64;
+pub const LARGE: usize = 9 + 20 * 1_024 + 100;
 /// Recordings above this length are tried with fewer buffers.
 const LONG: usize = 6_000;
 
@@ -35,6 +35,7 @@ macro_rules! agree {
         }
     }};
 }
+pub(crate) use agree;
 
 pub struct Entries {
     proved: Proved,
@@ -96,13 +97,13 @@ impl Entries {
                 check
             }
         };
-        agree!("report, NULL for the buffer", document: without_room, proved: lent.report_null()?);
+        agree!("report, NULL for the buffer", document: without_room, proved: lent.report(&mut Buffer::null())?);
         lent.give_back()?;
 
         if rec.is_empty() {
             let mut lent = self.proved.lend_null()?;
             agree!("check, NULL for the recording", document: check, proved: lent.check()?);
-            agree!("report, NULL for both", document: check, proved: lent.report_null()?);
+            agree!("report, NULL for both", document: check, proved: lent.report(&mut Buffer::null())?);
             expect_report(&mut lent, rec, LARGE, check, &[FILL; LARGE])?;
         }
         self.compare(rec).map(|_| ())
@@ -110,13 +111,13 @@ impl Entries {
 }
 
 /// What an expected buffer holds where nothing is written.
-const FILL: u8 = 0x5a;
+pub const FILL: u8 = 0x5a;
 
 fn expect_report(lent: &mut Lent, rec: &[u8], room: usize, answer: Answer, expected: &[u8]) -> Result<(), Disagreement> {
     let what = format!("report, a buffer of {room}");
-    let mut buffer = vec![FILL; room];
-    agree!(what, document: answer, proved: lent.report(&mut buffer, 0, room)?);
-    agree!(what, document: hexadecimal(expected), proved: hexadecimal(&buffer));
+    let mut buffer = Buffer::filled(FILL, room);
+    agree!(what, document: answer, proved: lent.report(&mut buffer)?);
+    agree!(what, document: hexadecimal(expected), proved: hexadecimal(buffer.bytes()));
     let mut buffer = vec![FILL; room];
     agree!(what, document: answer, second: second::report(rec, &mut buffer));
     agree!(what, document: hexadecimal(expected), second: hexadecimal(&buffer));
@@ -125,29 +126,12 @@ fn expect_report(lent: &mut Lent, rec: &[u8], room: usize, answer: Answer, expec
 
 fn compare_report(lent: &mut Lent, rec: &[u8], room: usize, turn: usize) -> Result<Answer, Disagreement> {
     let what = format!("report, a buffer of {room}");
-    // Every second buffer ends at the inaccessible page, the others lie at every alignment between guard bytes; what they hold before the
-    // call differs from call to call.
-    let front = GUARD + turn % 8;
-    let back = if turn % 2 == 0 { 0 } else { GUARD };
-    let untouched: Vec<u8> = (0..front + room + back).map(|place| (place * 167 + turn * 59 + 13) as u8).collect();
+    let untouched = Buffer::at_turn(room, turn);
     let (mut by_proved, mut by_second) = (untouched.clone(), untouched.clone());
-    let proved = lent.report(&mut by_proved, front, room)?;
-    let second = second::report(rec, &mut by_second[front..front + room]);
+    let proved = lent.report(&mut by_proved)?;
+    let second = second::report(rec, by_second.bytes_mut());
     agree!(what, proved: proved, second: second);
-    for (name, bytes) in [("proved", &by_proved), ("second", &by_second)] {
-        if bytes[..front] != untouched[..front] || bytes[front + room..] != untouched[front + room..] {
-            return Err(format!("{what}: {name} wrote outside the buffer\n"));
-        }
-        if second.number != 0 && *bytes != untouched {
-            return Err(format!("{what}: {name} refused and wrote to the buffer\n"));
-        }
-    }
-    let (proved, by_second) = (&by_proved[front..front + room], &by_second[front..front + room]);
-    if let Some(place) = (0..room).find(|&place| proved[place] != by_second[place]) {
-        let column = column(place);
-        let (proved, second) = (hexadecimal(proved), hexadecimal(by_second));
-        return Err(format!("{what}: the first differing byte is {place} ({column})\nproved: {proved}\nsecond: {second}\n"));
-    }
+    untouched.hold(&what, second.number == 0, &by_proved, &by_second, column)?;
     Ok(second)
 }
 
@@ -266,8 +250,4 @@ fn column(place: usize) -> String {
             format!("row {row}, {}", COLUMNS[column])
         }
     }
-}
-
-fn hexadecimal(bytes: &[u8]) -> String {
-    bytes.iter().map(|byte| format!("{byte:02x}")).collect()
 }

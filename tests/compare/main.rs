@@ -1,46 +1,58 @@
-//! Compares the proved library, through its C entries and its printing program, with the second program on the same inputs: the
-//! document's cases and many generated ones.
+//! Compares the proved library, through its C entries and its printing programs, with the second program on the same inputs: the
+//! document's cases and many generated ones, recordings and drawers of them.
 //!
-//!     compare [--seed N] [--count N]     all of the document's cases, and N generated recordings
-//!     compare --file F                   one recording
+//!     compare [--seed N] [--count N] [--drawers N]     all of the document's cases, and so many generated recordings and drawers
+//!     compare --file F                                 one recording
+//!     compare --drawer F                               one drawer
 //!
-//! It is run from the repository's root. A recording on which something disagrees is left under target/failing.
+//! It is run from the repository's root. A recording or a drawer on which something disagrees is left under target/failing.
 
+mod buffer;
 mod cases;
+mod drawer;
+mod drawer_cases;
 mod generate;
 mod harness;
 mod model;
 mod proved;
 mod random;
 mod recording;
+mod tally;
 
 use cases::Case;
-use harness::{Answers, Disagreement, Entries, Feeding, Printing};
-use model::{Model, Reached, CONTENTION};
+use drawer::{rooms_for, DrawerPrinting, Drawers};
+use drawer_cases::DrawerCase;
+use harness::{Disagreement, Entries, Feeding, Printing};
+use model::Model;
 use random::Random;
 use std::collections::{BTreeMap, BTreeSet};
 use std::path::{Path, PathBuf};
 use std::process::ExitCode;
 use std::sync::{mpsc, Mutex};
 use std::{env, fs, thread};
+use tally::{hold_contention, DrawerTally, Tally};
 
 /// What tests/compare.sh makes: each runs a program for the library's processor.
 const CALLER: &str = "target/tests/caller";
 const REPLAY: &str = "target/tests/replay";
+const REPLAY_DRAWER: &str = "target/tests/replay_drawer";
 const FAILING: &str = "target/failing";
 const MOST_FILES: usize = 10;
 const FEEDINGS: [Feeding; 4] = [Feeding::Whole, Feeding::Pieces(1), Feeding::Pieces(7), Feeding::Pieces(4_096)];
 /// One generated input in this many is printed too.
 const PRINTED_ONE_IN: usize = 10;
+const DRAWERS_PRINTED_ONE_IN: usize = 5;
 
 struct Options {
     seed: u64,
     count: usize,
+    drawers: usize,
     file: Option<PathBuf>,
+    drawer: Option<PathBuf>,
 }
 
 fn options() -> Result<Options, String> {
-    let mut options = Options { seed: 20_020_721, count: 20_000, file: None };
+    let mut options = Options { seed: 20_020_721, count: 20_000, drawers: 2_000, file: None, drawer: None };
     let mut words = env::args().skip(1);
     while let Some(word) = words.next() {
         let value = words.next().ok_or(format!("{word} wants a value"))?;
@@ -48,104 +60,13 @@ fn options() -> Result<Options, String> {
         match word.as_str() {
             "--seed" => options.seed = number()?,
             "--count" => options.count = number()? as usize,
+            "--drawers" => options.drawers = number()? as usize,
             "--file" => options.file = Some(value.into()),
-            _ => return Err(format!("{word} is no option; there are --seed N, --count N and --file F")),
+            "--drawer" => options.drawer = Some(value.into()),
+            _ => return Err(format!("{word} is no option; there are --seed N, --count N, --drawers N, --file F and --drawer F")),
         }
     }
     Ok(options)
-}
-
-/// What the generated inputs reached.
-#[derive(Default)]
-struct Tally {
-    accepted: [u64; 7],
-    refused: [u64; 12],
-    reached: Reached,
-    operations: u64,
-    full_length: u64,
-    full_operations: u64,
-    printed: u64,
-    kinds: BTreeMap<&'static str, u64>,
-}
-
-/// The contentions taken record by record, as the document words them, beside those that both reports have.
-fn hold_contention(rec: &[u8], model: &Model) -> Result<(), Disagreement> {
-    let mut report = vec![0; 9 + 20 * model.operations];
-    second::report(rec, &mut report);
-    for (row, (bytes, &contention)) in report[9..].chunks(20).zip(&model.contention).enumerate() {
-        if bytes[3] as usize != contention {
-            return Err(format!("row {row}: contention {} in both reports, {contention} record by record\n", bytes[3]));
-        }
-    }
-    Ok(())
-}
-
-impl Tally {
-    fn count(&mut self, rec: &[u8], answers: &Answers) -> Result<(), Disagreement> {
-        for answer in answers.reports.iter().filter(|answer| answer.number == 11) {
-            self.refused[answer.number as usize] += 1;
-        }
-        if answers.check.number != 0 {
-            self.refused[answers.check.number as usize] += 1;
-            return Ok(());
-        }
-        let model = Model::replayed(rec);
-        self.accepted[rec[5] as usize] += 1;
-        self.full_length += (rec.len() == recording::LONGEST) as u64;
-        self.full_operations += (model.operations == generate::MOST_OPERATIONS) as u64;
-        for (sum, more) in self.reached.second_attempts.iter_mut().zip(model.reached.second_attempts) {
-            *sum += more;
-        }
-        self.reached.failed_second_attempts += model.reached.failed_second_attempts;
-        self.reached.additions_taken_in_by_own_store += model.reached.additions_taken_in_by_own_store;
-        self.reached.additions_taken_in_by_another += model.reached.additions_taken_in_by_another;
-        self.reached.additions_taken_in_together += model.reached.additions_taken_in_together;
-        self.reached.finished_reads += model.reached.finished_reads;
-        self.reached.unfinished += model.reached.unfinished;
-        for (sum, more) in self.reached.contention.iter_mut().zip(model.reached.contention) {
-            *sum += more;
-        }
-        self.operations += model.operations as u64;
-        hold_contention(rec, &model)
-    }
-
-    /// Prints every count; the names of those that are 0.
-    fn print(&self) -> Vec<String> {
-        println!("inputs by kind:");
-        for (kind, count) in &self.kinds {
-            println!("  {count:>6}  {kind}");
-        }
-        let mut counts = vec![];
-        counts.extend((1..=6).map(|height| (format!("accepted, height {height}"), self.accepted[height])));
-        counts.extend((1..=11).map(|number| (format!("refusal {number}"), self.refused[number])));
-        counts.extend((1..=6).map(|level| (format!("second attempts, level {level}"), self.reached.second_attempts[level])));
-        counts.push(("second attempts that failed".into(), self.reached.failed_second_attempts));
-        counts.push(("additions taken in by their own machine's store".into(), self.reached.additions_taken_in_by_own_store));
-        counts.push(("additions taken in by another machine's store".into(), self.reached.additions_taken_in_by_another));
-        counts.push(("additions taken in together with others".into(), self.reached.additions_taken_in_together));
-        counts.push(("finished reads".into(), self.reached.finished_reads));
-        counts.push(("operations".into(), self.operations));
-        counts.push(("operations unfinished at the end".into(), self.reached.unfinished));
-        counts.extend(CONTENTION.iter().zip(self.reached.contention).map(|(name, count)| (name.to_string(), count)));
-        counts.push(("accepted recordings of 65,536 bytes".into(), self.full_length));
-        counts.push(("accepted recordings of 1,024 operations".into(), self.full_operations));
-        counts.push(("inputs printed".into(), self.printed));
-        println!("reached:");
-        for (name, count) in &counts {
-            println!("  {count:>8}  {name}");
-        }
-        let [finished, unfinished, ..] = self.reached.contention;
-        println!(
-            "contention above the count at the start: {} of 100 finished operations, {} of 100 unfinished ones",
-            of_100(finished, self.operations - self.reached.unfinished),
-            of_100(unfinished, self.reached.unfinished)
-        );
-        counts.into_iter().filter(|count| count.1 == 0).map(|count| count.0).collect()
-    }
-}
-
-fn of_100(part: u64, whole: u64) -> u64 {
-    (100 * part).checked_div(whole).unwrap_or(0)
 }
 
 /// The inputs that disagree.
@@ -179,22 +100,37 @@ fn write(path: &Path, bytes: &[u8]) {
 }
 
 fn one_file(path: &Path) -> Result<bool, String> {
-    let rec = fs::read(path).map_err(|error| format!("{}: {error}", path.display()))?;
+    let rec = read(path)?;
     print!("second: {}", second::printed(&rec));
     let printing = Printing::new(REPLAY.into());
     let mut outcome = Entries::new(CALLER.into()).compare(&rec).map(|_| ());
     for feeding in FEEDINGS {
         outcome = outcome.and_then(|()| printing.compare(&rec, feeding));
     }
-    match outcome {
+    Ok(agrees(outcome))
+}
+
+fn one_drawer(path: &Path, seed: u64) -> Result<bool, String> {
+    let drawer = read(path)?;
+    print!("second:\n{}", second::printed_drawer(&drawer));
+    let rooms = rooms_for(&drawer, &mut Random::new(seed));
+    let compared = Drawers::new(CALLER.into()).compare(&drawer, &rooms);
+    Ok(agrees(compared.and_then(|_| DrawerPrinting::new(REPLAY_DRAWER.into()).compare(&drawer))))
+}
+
+fn read(path: &Path) -> Result<Vec<u8>, String> {
+    fs::read(path).map_err(|error| format!("{}: {error}", path.display()))
+}
+
+fn agrees(outcome: Result<(), Disagreement>) -> bool {
+    match &outcome {
         Ok(()) => println!("compare: 1 inputs agree"),
         Err(disagreement) => {
             print!("{disagreement}");
             println!("compare: 1 of 1 inputs disagree");
-            return Ok(false);
         }
     }
-    Ok(true)
+    outcome.is_ok()
 }
 
 /// An input for the printing program.
@@ -261,48 +197,82 @@ fn call_all(cases: &[Case], options: &Options, to_print: mpsc::Sender<Printed>, 
     tally
 }
 
+fn all_drawers(cases: &[DrawerCase], options: &Options, failing: &Mutex<Failing>) -> DrawerTally {
+    let mut drawers = Drawers::new(CALLER.into());
+    let printing = DrawerPrinting::new(REPLAY_DRAWER.into());
+    for case in cases {
+        let print = || if case.is_printed() { printing.compare_case(case) } else { Ok(()) };
+        if let Err(disagreement) = drawers.compare_case(case).and_then(|()| print()) {
+            let name = format!("drawer {}", case.name);
+            failing.lock().unwrap().add(&name, &name, &case.drawer(), &disagreement);
+        }
+    }
+    // Not the numbers that draw the recordings.
+    let mut random = Random::new(!options.seed);
+    let mut tally = DrawerTally::default();
+    for index in 0..options.drawers {
+        let generate::Input { kind, rec: drawer } = generate::drawer(&mut random);
+        let rooms = rooms_for(&drawer, &mut random);
+        *tally.kinds.entry(kind).or_default() += 1;
+        let mut outcome = drawers.compare(&drawer, &rooms).map(|compared| tally.count(&drawer, &compared));
+        if index % DRAWERS_PRINTED_ONE_IN == 0 {
+            tally.printed += 1;
+            outcome = outcome.and_then(|()| printing.compare(&drawer));
+        }
+        if let Err(disagreement) = outcome {
+            let name = format!("generated drawer {index} of seed {}: {kind}", options.seed);
+            failing.lock().unwrap().add(&name, kind, &drawer, &disagreement);
+        }
+    }
+    tally
+}
+
 fn all(options: &Options) -> bool {
     let cases = cases::all();
-    println!("cases of the document and their neighbours: {}", cases.len());
-    println!("seed {}, {} generated recordings", options.seed, options.count);
+    let drawer_cases = drawer_cases::all(&cases);
+    println!("cases of the document and their neighbours: {} recordings, {} drawers", cases.len(), drawer_cases.len());
+    println!("seed {}, {} generated recordings, {} generated drawers", options.seed, options.count, options.drawers);
     let failing = Mutex::new(Failing::default());
-    let tally = thread::scope(|scope| {
+    let (tally, drawer_tally) = thread::scope(|scope| {
         let (to_print, generated) = mpsc::channel();
-        let (cases, failing) = (&cases, &failing);
+        let (cases, drawer_cases, failing) = (&cases, &drawer_cases, &failing);
         scope.spawn(move || print_all(cases, generated, failing));
-        call_all(cases, options, to_print, failing)
+        let drawers = scope.spawn(move || all_drawers(drawer_cases, options, failing));
+        (call_all(cases, options, to_print, failing), drawers.join().expect("the thread of the drawers ends"))
     });
     let failing = failing.into_inner().unwrap();
 
-    let unreached = tally.print();
-    let inputs = cases.len() + options.count;
+    let unreached = [tally.print(), drawer_tally.print()].concat();
+    let recordings = cases.len() + options.count;
+    let drawers = drawer_cases.len() + options.drawers;
     if !failing.inputs.is_empty() {
         println!("disagreements by kind:");
         for (kind, count) in &failing.kinds {
             println!("  {count:>6}  {kind}");
         }
-        println!("compare: {} of {inputs} inputs disagree", failing.inputs.len());
+        println!("compare: {} of {} inputs disagree", failing.inputs.len(), recordings + drawers);
         return false;
     }
     if !unreached.is_empty() {
         println!("compare: the generator never reached: {}", unreached.join("; "));
         return false;
     }
-    println!("compare: {inputs} inputs agree");
+    println!("compare: {recordings} recordings and {drawers} drawers agree");
     true
 }
 
 fn run() -> Result<bool, String> {
     let options = options()?;
-    for program in [CALLER, REPLAY] {
+    for program in [CALLER, REPLAY, REPLAY_DRAWER] {
         if !Path::new(program).is_file() {
             return Err(format!("{program} is missing; tests/compare.sh makes it"));
         }
     }
     fs::create_dir_all(FAILING).map_err(|error| format!("{FAILING}: {error}"))?;
-    match &options.file {
-        Some(path) => one_file(path),
-        None => Ok(all(&options)),
+    match (&options.file, &options.drawer) {
+        (Some(path), _) => one_file(path),
+        (None, Some(path)) => one_drawer(path, options.seed),
+        (None, None) => Ok(all(&options)),
     }
 }
 

@@ -1,5 +1,6 @@
 //! The proved library, called through the program `caller`, which links it and says in its own source how it is talked to.
 
+use crate::buffer::Buffer;
 use crate::harness::Disagreement;
 use second::Answer;
 use std::io::{Read, Write};
@@ -12,6 +13,10 @@ const GIVE_BACK: u32 = 2;
 const CHECK: u32 = 3;
 const REPORT: u32 = 4;
 const REPORT_NULL: u32 = 5;
+const MARKS: u32 = 6;
+const MARKS_NULL: u32 = 7;
+const DRAWER: u32 = 8;
+const DRAWER_NULL: u32 = 9;
 
 pub struct Proved {
     program: PathBuf,
@@ -24,7 +29,7 @@ struct Running {
     output: ChildStdout,
 }
 
-/// A recording lent to the library.
+/// A recording, or a drawer, lent to the library.
 pub struct Lent<'a> {
     running: &'a mut Option<Running>,
     rec: &'a [u8],
@@ -42,7 +47,7 @@ impl Proved {
         Ok(lent)
     }
 
-    /// An empty recording, lent as NULL.
+    /// An empty one, lent as NULL.
     pub fn lend_null(&mut self) -> Result<Lent<'_>, Disagreement> {
         self.start()?;
         let mut lent = Lent { running: &mut self.running, rec: &[] };
@@ -69,34 +74,42 @@ impl Proved {
 
 impl Lent<'_> {
     pub fn check(&mut self) -> Result<Answer, Disagreement> {
-        self.call([CHECK, 0, 0, 0], &mut [])
+        self.call([CHECK, 0, 0, 0], &[], &mut [])
     }
 
-    /// `around` holds the buffer of `room` bytes at `front`, and is given back as the library left it.
-    pub fn report(&mut self, around: &mut [u8], front: usize, room: usize) -> Result<Answer, Disagreement> {
-        let back = around.len() - front - room;
-        self.call([REPORT, front as u32, room as u32, back as u32], around)
+    /// The buffer is given back as the library left it.
+    pub fn report(&mut self, out: &mut Buffer) -> Result<Answer, Disagreement> {
+        let told = out.around.clone();
+        self.call(words(out, REPORT, REPORT_NULL), &told, &mut [&mut out.around])
     }
 
-    /// An empty buffer, lent as NULL.
-    pub fn report_null(&mut self) -> Result<Answer, Disagreement> {
-        self.call([REPORT_NULL, 0, 0, 0], &mut [])
+    /// Both buffers are given back as the library left them.
+    pub fn drawer(&mut self, out: &mut Buffer, marks: &mut Buffer) -> Result<Answer, Disagreement> {
+        self.tell(words(marks, MARKS, MARKS_NULL), &marks.around, &mut [])?;
+        let told = out.around.clone();
+        self.call(words(out, DRAWER, DRAWER_NULL), &told, &mut [&mut out.around, &mut marks.around])
     }
 
     pub fn give_back(mut self) -> Result<(), Disagreement> {
         let mut rec = vec![0; self.rec.len()];
         self.tell([GIVE_BACK, 0, 0, 0], &[], &mut rec)?;
         if rec != self.rec {
-            return Err("the library wrote to the recording\n".into());
+            return Err("the library wrote to the recording or the drawer\n".into());
         }
         Ok(())
     }
 
-    fn call(&mut self, words: [u32; 4], around: &mut [u8]) -> Result<Answer, Disagreement> {
-        let mut reply = vec![0; 8 + around.len()];
-        self.tell(words, around, &mut reply)?;
-        let number = |at: usize| u32::from_le_bytes(reply[at..at + 4].try_into().expect("4 bytes"));
-        around.copy_from_slice(&reply[8..]);
+    /// Every byte of `given_back` is answered too, one part after another.
+    fn call(&mut self, words: [u32; 4], told: &[u8], given_back: &mut [&mut Vec<u8>]) -> Result<Answer, Disagreement> {
+        let mut reply = vec![0; 8 + given_back.iter().map(|part| part.len()).sum::<usize>()];
+        self.tell(words, told, &mut reply)?;
+        let (answer, mut rest) = reply.split_at(8);
+        for part in given_back {
+            let (bytes, after) = rest.split_at(part.len());
+            part.copy_from_slice(bytes);
+            rest = after;
+        }
+        let number = |at: usize| u32::from_le_bytes(answer[at..at + 4].try_into().expect("4 bytes"));
         Ok(Answer { number: number(0), place: number(4) })
     }
 
@@ -115,4 +128,10 @@ impl Lent<'_> {
         let status = stopped.child.wait().map_err(|error| format!("{error}\n"))?;
         Err(format!("the library stopped the program that calls it: {status}\n"))
     }
+}
+
+fn words(buffer: &Buffer, lent: u32, lent_as_null: u32) -> [u32; 4] {
+    let back = buffer.around.len() - buffer.front - buffer.room;
+    let first = if buffer.is_null { lent_as_null } else { lent };
+    [first, buffer.front as u32, buffer.room as u32, back as u32]
 }

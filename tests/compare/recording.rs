@@ -6,6 +6,9 @@ pub const ADD: u8 = 3;
 
 pub const HEADER: usize = 6;
 pub const LONGEST: usize = 65_536;
+pub const LONGEST_DRAWER: usize = 16_777_216;
+/// The bytes of a mark.
+pub const MARK: usize = 5;
 
 /// A recording of height `height` with these bytes after the header, and a true L.
 pub fn recording(height: u8, records: &[u8]) -> Vec<u8> {

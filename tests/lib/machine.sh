@@ -1,6 +1,6 @@
 # Read by the scripts of tests/, bench/, fuzz/ and tools/, from the repository's root: builds and runs programs that link the proved library.
 #
-# The library and the printing program are for x86-64 Linux. On another processor the C programs over the library are compiled and linked
+# The library and the printing programs are for x86-64 Linux. On another processor the C programs over the library are compiled and linked
 # by the kit's own compiler, with this machine's C headers, and run under the kit's emulator, without sanitizers.
 
 script=$(basename "$0")
@@ -18,6 +18,7 @@ need() {
 
 library=target/staticlib/libilvrotse.a
 replay=target/bin/replay
+drawer=target/bin/replay_drawer
 
 # need_built OUT WORDS..: OUT, built anew by `rt WORDS` where a source is newer. It is given the time at which the build began, so that a source
 # changed meanwhile is newer still.
@@ -38,6 +39,7 @@ need_built() {
 
 need_library() { need_built "$library" staticlib ilvrotse; }
 need_replay() { need_built "$replay" check replay; }
+need_drawer() { need_built "$drawer" check replay_drawer; }
 
 processor=$(uname -m)
 emulated=no

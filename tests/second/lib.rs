@@ -1,9 +1,12 @@
-//! The second program: the replay of a recording, written from the scope document alone and without proofs. The tests hold the proved
-//! library to it, and the benchmark measures the one against the other.
+//! The second program: the replay of a recording, and of a drawer of them, written from the documents alone and without proofs. The tests
+//! hold the proved library to it, and the benchmark measures the one against the other.
 
+mod drawer;
 mod ledger;
 mod machine;
 mod recording;
+
+pub use drawer::{drawer, printed_drawer};
 
 use ledger::{Kind, Ledger, Row};
 use machine::{replay, Unwatched};
@@ -60,13 +63,12 @@ pub fn report(rec: &[u8], out: &mut [u8]) -> Answer {
         Ok(outcome) => outcome,
         Err(refusal) => return refusal,
     };
-    let needed = REPORT_HEAD + REPORT_ROW * outcome.rows.len();
-    match out.get_mut(..needed) {
+    match out.get_mut(..outcome.needed()) {
         Some(out) => {
             outcome.lay(out);
             Answer::ACCEPTED
         }
-        None => Answer::refused(11, needed),
+        None => Answer::refused(11, outcome.needed()),
     }
 }
 
@@ -74,8 +76,12 @@ pub fn report(rec: &[u8], out: &mut [u8]) -> Answer {
 pub fn printed(rec: &[u8]) -> String {
     match outcome(rec) {
         Ok(outcome) => outcome.print(),
-        Err(refusal) => format!("refused {} {}\n", refusal.number, refusal.place),
+        Err(refusal) => printed_refusal(refusal),
     }
+}
+
+fn printed_refusal(refusal: Answer) -> String {
+    format!("refused {} {}\n", refusal.number, refusal.place)
 }
 
 struct Outcome {
@@ -94,6 +100,11 @@ fn outcome(rec: &[u8]) -> Result<Outcome, Answer> {
 }
 
 impl Outcome {
+    /// The bytes of the report.
+    fn needed(&self) -> usize {
+        REPORT_HEAD + REPORT_ROW * self.rows.len()
+    }
+
     fn lay(&self, out: &mut [u8]) {
         let (head, rows) = out.split_at_mut(REPORT_HEAD);
         head[0] = REPORT_VERSION;

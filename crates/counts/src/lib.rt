@@ -115,14 +115,22 @@ fn attempt(
     requires { ⌜ l < 6 ⌝ }
     ensures { λ r. ⌜ countsOf (now (counts .exit)) (now (written .entry)) (now (read .exit)) ≡ attempted p l i stored (countsOf (now (counts .entry)) (now (written .entry)) (now (read .entry))) ⌝ }
 {
-    let lo = first_under(l + 1, p);
-    let hi = lo + leaves_under(l + 1);
-    let mid = lo + leaves_under(l);
     match i {
-        1 => read_child(counts, written, read, p, l, lo, mid),
-        2 => read_child(counts, written, read, p, l, mid, hi),
+        1 => {
+            let lo = first_under(l + 1, p);
+            let mid = lo + leaves_under(l);
+            read_child(counts, written, read, p, l, lo, mid);
+        }
+        2 => {
+            let lo = first_under(l + 1, p);
+            let mid = lo + leaves_under(l);
+            let hi = lo + leaves_under(l + 1);
+            read_child(counts, written, read, p, l, mid, hi);
+        }
         3 => {
             if stored {
+                let lo = first_under(l + 1, p);
+                let hi = lo + leaves_under(l + 1);
                 *counts = store(*counts, read, p, l, lo, hi);
             }
         }

@@ -1,12 +1,18 @@
 -- What holds after every accepted recording: an invariant of starts and steps holds of the state that the run ends in.
 use Prim.Native.Nat.{ℕ, zero, suc, _+_, _*_, _^_, _≤_, _<_}
 use native.Mathlib.Omega.{arith}
-use mathlib.Core.Path.{_≡_, refl, _∙_, subst, subst⁻¹}
+use mathlib.Core.Path.{_≡_, refl, ap, _∙_, subst, subst⁻¹}
 use mathlib.Core.Bool.{Bool, true, false}
 use mathlib.Core.List.{List}
+use lib.ListN.{length}
 use lib.Pow.{pow-mono}
+use Rattle.recording.specs.Record.{cutAt, nextInside}
 use Rattle.recording.specs.declared.Event.{Event}
-use Rattle.meaning.specs.Layout.{Records, end, broken, event, headRefusal, height, recordsOf}
+use Rattle.recording.specs.declared.Event.the-variants.{Step, Read, Add}
+use Rattle.recording.specs.declared.Cut.{Cut}
+use Rattle.recording.specs.declared.Cut.the-variants.{Found, Broken, End}
+use Rattle.recording.proofs.Cases.{cuts-some}
+use Rattle.meaning.specs.Layout.{Records, end, broken, event, follow, headRefusal, height, recordsFrom, recordsOf}
 use Rattle.meaning.specs.Alone.{alone}
 use Rattle.meaning.specs.Run.{Row, State, initial, busy, processOf as processIn, isStart, start, takeStep, takeEvent, recordRefusal, Outcome, accepted, unless, run, outcome}
 use Rattle.meaning.specs.Contention.{contention}
@@ -94,3 +100,36 @@ pub accepted-alone : (s : List ℕ) (st : State) → outcome s ≡ accepted st �
     → (1 ≤ st .process p .step → 2 + 8 * height s ≤ st .row (st .process p .operation) .steps + k)
     → (alone (height s) p k st .process p .step ≡ 0) × StepCount (height s) (alone (height s) p k st)
 accepted-alone s st e p k enough = let c = counted s st e in alone-ends (height s) p k st (c .0) (c .1) enough
+
+-- ---- its operations and its bytes
+
+pub accepted-few : (s : List ℕ) (st : State) → outcome s ≡ accepted st → st .operations ≤ 1024
+accepted-few s st e = counted s st e .0 .few
+
+-- an event starts one operation at most
+one-more : (h : ℕ) (st : State) (e : Event) → takeEvent h st e .operations ≤ suc (st .operations)
+unfolding takeEvent takeStep start
+one-more h st (Step p) = omega arith
+one-more h st (Read p) = omega arith
+one-more h st (Add p d) = omega arith
+
+-- a record takes three bytes at least, so that each operation has three
+operations-within : (s : List ℕ) (h most at : ℕ) (st last : State) → at ≤ length s → 3 * st .operations + 6 ≤ at → run h st (recordsFrom most s at) ≡ accepted last
+    → 3 * last .operations + 6 ≤ length s
+unfolding run recordsFrom follow nextInside
+operations-within s h zero at st last inside bytes e = let same : st ≡ last = cc in omega (arith, ap (λ (x : State). x .operations) same)
+operations-within s h (suc most) at st last inside bytes e = go (cutAt s at) refl e (λ next st′ i b z. operations-within s h most next st′ last i b z)
+  where
+    go : (c : Cut) → cutAt s at ≡ c → run h st (follow at c (recordsFrom most s)) ≡ accepted last
+        → ((next : ℕ) (st′ : State) → next ≤ length s → 3 * st′ .operations + 6 ≤ next → run h st′ (recordsFrom most s next) ≡ accepted last → 3 * last .operations + 6 ≤ length s)
+        → 3 * last .operations + 6 ≤ length s
+    go (Found x next) d z rest =
+        let further : (at + 3 ≤ next) × (next ≤ length s) = subst (nextInside at (length s)) d (cuts-some s at .inside) in
+        rest next (takeEvent h st x) (further .1) (omega (arith, one-more h st x)) (none-refused (recordRefusal h st x) at _ last z .1)
+    go (Broken place) d z rest = let w : _≡_ {A = ℕ} 0 1 = cc in absurd (omega arith)
+    go End d z rest = let same : st ≡ last = cc in omega (arith, ap (λ (x : State). x .operations) same)
+
+-- an accepted recording has three bytes for each operation after the first six
+pub accepted-bytes : (s : List ℕ) (st : State) → outcome s ≡ accepted st → 3 * st .operations + 6 ≤ length s
+unfolding recordsOf initial
+accepted-bytes s st e = let r = accepted-run s st e in operations-within s (height s) (length s) 6 initial st (r .0 .enough) (omega arith) (r .1)

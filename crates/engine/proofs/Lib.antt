@@ -2,6 +2,7 @@ pub mod Agrees
 pub mod Room
 pub mod Tries
 pub mod Runs
+pub mod Whole
 pub mod Fresh
 pub mod Loop
 pub mod Accepted

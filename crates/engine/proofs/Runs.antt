@@ -51,7 +51,7 @@ pub record RunsKept (s : List ℕ) (h at : ℕ) (vals links : List ℕ) (ps : Li
 
 -- ---- the records from a place, by what is cut there
 
-records-end : (most : ℕ) (s : List ℕ) (at : ℕ) → cutAt s at ≡ End → recordsFrom most s at ≡ end
+pub records-end : (most : ℕ) (s : List ℕ) (at : ℕ) → cutAt s at ≡ End → recordsFrom most s at ≡ end
 unfolding recordsFrom follow
 records-end zero s at e = refl
 records-end (suc most) s at e = rw e

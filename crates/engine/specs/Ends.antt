@@ -44,3 +44,10 @@ pub record RoomFor (s : List ℕ) (h : ℕ) (read : List (List ℕ)) (queue turn
   pub readers : 2 ^ h ≤ length read
   pub sizes : Sizes queue turns rows
   pub operations : (m : ℕ) → m ≤ 1024 → 3 * m + 6 ≤ length s → m ≤ length queue
+
+-- Arrays for what a report of any recording keeps.
+pub record RoomForAny (read : List (List ℕ)) (queue turns rows greatest : List ℕ) : Type 0 where
+  pub readers : 64 ≤ length read
+  pub sizes : Sizes queue turns rows
+  pub operations : 1024 ≤ length queue
+  pub processes : 64 ≤ length greatest

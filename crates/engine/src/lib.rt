@@ -10,11 +10,11 @@ ghost use mathlib.Core.Bool.{true};
 ghost use lib.ListN.{length};
 ghost use Rattle.sets.specs.Processes.{countBelow, isIn};
 ghost use Rattle.arrays.specs.Arrays.{asFun};
-ghost use Rattle.meaning.specs.Layout.{recordsOf};
-ghost use Rattle.meaning.specs.Run.{initial, kindOf, run as runOf};
+ghost use Rattle.meaning.specs.Layout.{height, recordsOf};
+ghost use Rattle.meaning.specs.Run.{initial, kindOf, outcome, run as runOf};
 ghost use Rattle.rows.specs.Rows.{withRow, freshNumbers, RoomToClose, closed};
 ghost use Rattle.contention.specs.Greatest.{raised};
-ghost use Rattle.engine.specs.Ends.{addsOf, deltaOf, Refuses, Ends, RoomFor};
+ghost use Rattle.engine.specs.Ends.{addsOf, deltaOf, Refuses, Ends, RoomFor, RoomForAny};
 ghost use Rattle.engine.specs.Tries.{Tries, busyThen};
 
 // What the record at a place comes to: no more records; a refusal and its place; a step or a start that passes, of a process, with what it
@@ -198,4 +198,32 @@ pub fn run(
             }
         }
     }
+}
+
+// A recording alone: its header, then its records. A recording of six bytes has none, and nothing is set up for it.
+pub fn alone(
+    s: &[u8],
+    asked: bool,
+    read: &mut [[u16; 64]],
+    queue: &mut [u16],
+    turns: &mut [u16],
+    rows: &mut [u32],
+    greatest: &mut [u8],
+) -> Ended
+    requires { ⌜ (asked ≡ true → RoomForAny (now read) (now queue) (now turns) (now rows) (now greatest)) ⌝ }
+    ensures { λ r. ⌜ Ends asked (height (now (s .entry))) (length (now (s .entry))) (asFun (now (rows .exit))) r (outcome (now (s .entry))) ⌝ }
+{
+    let head = rules::header(s);
+    if head != 0 {
+        return refused(head, 0);
+    }
+    if s.len() == 6 {
+        return Ended {
+            number: 0,
+            place: 0,
+            operations: 0,
+            counter: 0,
+        };
+    }
+    run(s, s[5] as u32, asked, read, queue, turns, rows, greatest)
 }

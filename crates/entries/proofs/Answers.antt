@@ -1,5 +1,5 @@
 -- From how a run ends to what check and report answer and leave in the buffer.
-use Prim.Native.Nat.{ℕ, zero, suc, _+_, _*_, _≤_, _<_}
+use Prim.Native.Nat.{ℕ, _+_, _*_, _≤_, _<_}
 use native.Mathlib.Omega.{arith}
 use mathlib.Core.Path.{_≡_, refl, sym, ap, _∙_}
 use mathlib.Core.Bool.{Bool, true, false}
@@ -7,8 +7,9 @@ use mathlib.Core.List.{List, _++_}
 use lib.ListN.{length, drop}
 use lib.Dec.{leb}
 use borrow.Author.Tests.{le-leb, lt-leb}
-use Rattle.meaning.specs.Layout.{headRefusal, height, recordsOf}
-use Rattle.meaning.specs.Run.{initial, Outcome, refused, accepted, unless, run, outcome}
+use Rattle.meaning.specs.Layout.{height}
+use Rattle.meaning.specs.Run.{Outcome, accepted, outcome}
+use Rattle.meaning.specs.Drawer.{reportWith}
 use Rattle.meaning.specs.Report.{reportBytes, needed, passes, answerWith, bufferWith, reportAnswer, reportBuffer, checkWith}
 use Rattle.rows.specs.Rows.{laidReport}
 use Rattle.rows.proofs.Laws.{report-bytes}
@@ -17,17 +18,6 @@ use Rattle.engine.specs.declared.Ended.{Ended}
 use Rattle.engine.proofs.Accepted.{accepted-fits, accepted-small}
 use Rattle.entries.specs.Promises.{answerOf, Reports}
 use Rattle.entries.specs.declared.Reply.{Reply}
-
--- ---- the header
-
-pub head-refused : (s : List ℕ) (k : ℕ) → k ≡ headRefusal s → (k ≡ 0 → ⊥) → outcome s ≡ refused (record { number = k; place = 0 })
-unfolding outcome unless
-head-refused s zero e n = absurd (n refl)
-head-refused s (suc k) e n = rw (← e)
-
-pub head-passed : (s : List ℕ) (k : ℕ) → k ≡ headRefusal s → k ≡ 0 → outcome s ≡ run (height s) initial (recordsOf s)
-unfolding outcome unless
-head-passed s k e z = ap (λ (n : ℕ). unless n 0 (run (height s) initial (recordsOf s))) (sym e ∙ z)
 
 -- ---- check
 
@@ -56,16 +46,31 @@ module _ (s buf : List ℕ) (h size : ℕ) (rows : ℕ → ℕ) (r : Ended) (sam
       let long : leb (9 + 20 * st .operations) (length buf) ≡ false = lt-leb (9 + 20 * st .operations) (length buf) (omega arith) in
       reports s buf buf _ (accepted st) e (rw long (ap (λ (m : ℕ). record { number = 11; place = 9 + 20 * m }) c)) (rw long)
 
+  -- what laying the report leaves, once the run is accepted
+  pub laid-bytes : {o : Outcome} → outcome s ≡ o → Ends true h size rows r o → r .number ≡ 0
+      → laidReport (r .operations) (r .counter) rows buf ≡ reportWith (height s) o ++ drop (9 + 20 * r .operations) buf
+  unfolding reportWith needed
+  laid-bytes e (refuses w c) z = absurd (omega (arith, w .its, c))
+  laid-bytes e (accepts {st} a b c d f q g) z =
+      (λ i. laidReport (c i) (d i) rows buf) ∙ report-bytes h st rows (λ i k x y. g refl i k x y) (λ i x. accepted-fits s st e i) (λ i x. accepted-small s st e (st .row i)) buf
+      ∙ (λ i. reportBytes (same i) st ++ drop (9 + 20 * sym c i) buf)
+
   pub report-laid : (after : List ℕ) {o : Outcome} → outcome s ≡ o → Ends true h size rows r o → r .number ≡ 0 → 9 + 20 * r .operations ≤ length buf → after ≡ laidReport (r .operations) (r .counter) rows buf
       → Reports s buf after (record { number = r .number; place = r .place })
-  unfolding answerWith bufferWith answerOf needed passes
+  unfolding answerWith bufferWith answerOf needed passes reportWith
   report-laid after e (refuses w c) z l laid = absurd (omega (arith, w .its, c))
   report-laid after e (accepts {st} a b c d f q g) z l laid =
       let long : leb (9 + 20 * st .operations) (length buf) ≡ true = le-leb (9 + 20 * st .operations) (length buf) (omega arith) in
       reports s buf after _ (accepted st) e (rw long (λ i. record { number = a i; place = b i }))
-      (rw long
-      (laid ∙ (λ i. laidReport (c i) (d i) rows buf) ∙ report-bytes h st rows (λ i k x y. g refl i k x y) (λ i x. accepted-fits s st e i) (λ i x. accepted-small s st e (st .row i)) buf ∙ ap (λ (x : ℕ). reportBytes x st ++ drop (9 + 20 * st .operations) buf) same))
+      (rw long (laid ∙ laid-bytes e (accepts a b c d f q g) z ∙ ap (λ (m : ℕ). reportBytes (height s) st ++ drop (9 + 20 * m) buf) c))
 
-pub few-operations : (h size : ℕ) (rows : ℕ → ℕ) (r : Ended) {o : Outcome} → 6 ≤ size → Ends true h size rows r o → (r .operations ≤ 1024) × (3 * r .operations + 6 ≤ size)
-few-operations h size rows r six (refuses w c) = (omega (arith, w .operations), omega (arith, w .operations))
-few-operations h size rows r six (accepts a b c d e l f) = (omega arith, omega arith)
+-- ---- the operations that an end tells
+
+module _ {asked : Bool} {h size : ℕ} {rows : ℕ → ℕ} {r : Ended} where
+  pub few-of-ends : {o : Outcome} → Ends asked h size rows r o → r .operations ≤ 1024
+  few-of-ends (refuses w c) = omega (arith, w .operations)
+  few-of-ends (accepts a b c d e l f) = omega arith
+
+  pub bytes-of-ends : {o : Outcome} → 6 ≤ size → Ends asked h size rows r o → 3 * r .operations + 6 ≤ size
+  bytes-of-ends six (refuses w c) = omega (arith, w .operations)
+  bytes-of-ends six (accepts a b c d e l f) = omega arith

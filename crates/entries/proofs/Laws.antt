@@ -1,12 +1,15 @@
--- What follows from the promises of check and report: one outcome each, check as report with room enough, and acceptance exactly where the
--- definition accepts.
+-- What follows from the promises of check and report: one outcome each, check as report with room enough, which numbers a refusal has, and
+-- acceptance exactly where the definition accepts.
 use Prim.Native.Nat.{ℕ, zero, suc, _≤_}
 use native.Mathlib.Omega.{arith}
 use mathlib.Core.Path.{_≡_, refl, sym, ap, _∙_}
-use mathlib.Core.List.{List}
+use mathlib.Core.Bool.{Bool, true, false, cond}
+use mathlib.Core.List.{List, [], _∷_}
 use lib.ListN.{length}
 use borrow.Author.Tests.{le-leb}
 use Rattle.recording.specs.Record.{Answer}
+use Rattle.recording.specs.declared.Event.{Event}
+use Rattle.meaning.specs.Refusals.{Refusal, firstOf}
 use Rattle.meaning.specs.Layout.{Records, end, broken, event, headRefusal, height, recordsOf}
 use Rattle.meaning.specs.Run.{State, initial, takeEvent, recordRefusal, Outcome, refused, accepted, unless, run, outcome}
 use Rattle.meaning.specs.Report.{needed, passes, answerWith, reportAnswer, checkWith, checkAnswer}
@@ -36,29 +39,52 @@ pub check-is-report : (s buf : List ℕ) → ((st : State) → outcome s ≡ acc
 unfolding checkAnswer reportAnswer
 check-is-report s buf room = with-room (length buf) (outcome s) room
 
--- ---- acceptance
+-- ---- a refusal's number is 1 to 10
 
--- a refusal's number is never 0
-unless-positive : (k at : ℕ) (o : Outcome) (a : Answer) → ((b : Answer) → o ≡ refused b → 1 ≤ b .number) → unless k at o ≡ refused a → 1 ≤ a .number
+abbrev Few : List Refusal → Type 0
+Few [] = Unit {0}
+Few (r ∷ rs) = (r .number ≤ 10) × Few rs
+
+first-few : (rs : List Refusal) → Few rs → firstOf rs ≤ 10
+unfolding firstOf
+first-few [] f = omega arith
+first-few (r ∷ rs) f = go (r .given) (first-few rs (f .1))
+  where
+    go : (b : Bool) → firstOf rs ≤ 10 → cond b (r .number) (firstOf rs) ≤ 10
+    go true later = f .0
+    go false later = later
+
+head-few : (s : List ℕ) → headRefusal s ≤ 10
+unfolding headRefusal
+head-few s = first-few _ (omega arith)
+
+record-few : (h : ℕ) (st : State) (e : Event) → recordRefusal h st e ≤ 10
+unfolding recordRefusal
+record-few h st e = first-few _ (omega arith)
+
+number-of : {a b : Answer} → refused a ≡ refused b → a .number ≡ b .number
+number-of e = cc
+
+unless-number : (k at : ℕ) (o : Outcome) (a : Answer) → k ≤ 10 → ((b : Answer) → o ≡ refused b → (1 ≤ b .number) × (b .number ≤ 10)) → unless k at o ≡ refused a
+    → (1 ≤ a .number) × (a .number ≤ 10)
 unfolding unless
-unless-positive zero at o a f e = f a e
-unless-positive (suc k) at o a f e = let n : suc k ≡ a .number = number-of e in omega arith
-  where
-    number-of : {b c : Answer} → refused b ≡ refused c → b .number ≡ c .number
-    number-of e = cc
+unless-number zero at o a few f e = f a e
+unless-number (suc k) at o a few f e = let n : suc k ≡ a .number = number-of e in omega arith
 
-run-positive : (h : ℕ) (st : State) (rs : Records) (a : Answer) → run h st rs ≡ refused a → 1 ≤ a .number
+run-number : (h : ℕ) (st : State) (rs : Records) (a : Answer) → run h st rs ≡ refused a → (1 ≤ a .number) × (a .number ≤ 10)
 unfolding run
-run-positive h st end a e = let z : _≡_ {A = ℕ} 0 1 = cc in omega arith
-run-positive h st (broken at) a e = let n : 6 ≡ a .number = number-of e in omega arith
-  where
-    number-of : {b c : Answer} → refused b ≡ refused c → b .number ≡ c .number
-    number-of e = cc
-run-positive h st (event at x rs) a e = unless-positive (recordRefusal h st x) at _ a (λ b d. run-positive h (takeEvent h st x) rs b d) e
+run-number h st end a e = let z : _≡_ {A = ℕ} 0 1 = cc in omega arith
+run-number h st (broken at) a e = let n : 6 ≡ a .number = number-of e in omega arith
+run-number h st (event at x rs) a e = unless-number (recordRefusal h st x) at _ a (record-few h st x) (λ b d. run-number h (takeEvent h st x) rs b d) e
+
+pub refusal-number : (s : List ℕ) (a : Answer) → outcome s ≡ refused a → (1 ≤ a .number) × (a .number ≤ 10)
+unfolding outcome
+refusal-number s a e = unless-number (headRefusal s) 0 _ a (head-few s) (λ b d. run-number (height s) initial (recordsOf s) b d) e
 
 pub refusal-positive : (s : List ℕ) (a : Answer) → outcome s ≡ refused a → 1 ≤ a .number
-unfolding outcome
-refusal-positive s a e = unless-positive (headRefusal s) 0 _ a (λ b d. run-positive (height s) initial (recordsOf s) b d) e
+refusal-positive s a e = refusal-number s a e .0
+
+-- ---- acceptance
 
 -- "Acceptance is answered by number 0, place 0", exactly where the definition accepts
 pub accepts-when : (s : List ℕ) → checkAnswer s .number ≡ 0 → (st : State) × (outcome s ≡ accepted st)

@@ -18,21 +18,13 @@ pub struct Reply {
 pub fn check(s: &[u8]) -> Reply
     ensures { λ r. ⌜ answerOf r ≡ checkAnswer (now (s .entry)) ⌝ }
 {
-    let k = rules::header(s);
-    if k != 0 {
-        return Reply {
-            number: k,
-            place: 0,
-        };
-    }
     let mut read = [[0u16; 64]; 0];
     let mut queue = [0u16; 0];
     let mut turns = [0u16; 0];
     let mut rows = [0u32; 0];
     let mut greatest = [0u8; 0];
-    let last = engine::run(
+    let last = engine::alone(
         s,
-        s[5] as u32,
         false,
         &mut read,
         &mut queue,

@@ -9,14 +9,11 @@ ghost use Rattle.ledger.specs.Kept.{keptStep, secondLink};
 ghost use Rattle.placing.specs.Placing.{keptOf};
 ghost use Rattle.keeping.specs.Keeping.{CanKeep};
 
-// Whether the step s is the LL of a second attempt.
+// Whether the step s is the LL of a second attempt: 7, 15, 23 and so on.
 fn second_link(s: u32) -> bool
     ensures { λ r. ⌜ r ≡ secondLink s ⌝ }
 {
-    if s < 3 {
-        return false;
-    }
-    (s - 3) % 8 == 4
+    s % 8 == 7
 }
 
 // One step of process p, whose record was r and is next, where a report is asked for. A last step puts p's greatest count into the row.
@@ -63,5 +60,9 @@ pub fn keep_step(
         rows::step_row(rows, i, done, greatest[p], next.seen, false);
         return after;
     }
-    listed
+    // Field by field: a copy of the whole would carry its padding through every record.
+    Listed {
+        waiting: listed.waiting,
+        rank: listed.rank,
+    }
 }

@@ -1,3 +1,3 @@
 pub mod Digits
-pub mod Laid
+pub mod Left
 pub mod Texts

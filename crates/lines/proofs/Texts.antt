@@ -1,17 +1,14 @@
 -- The parts that are laid one after another are the lines.
 use Prim.Native.Nat.{ℕ}
-use mathlib.Core.Path.{_≡_, ap, _∙_}
-use mathlib.Core.List.{List, _++_, append-assoc}
+use mathlib.Core.Path.{_≡_}
+use mathlib.Core.List.{List, [], _∷_, _++_, append-assoc}
 use Rattle.meaning.specs.Printed.{text, decimal, line}
-use Rattle.lines.specs.Text.{field, bytesText, numbersText, rowText, firstText, refusalText}
+use Rattle.lines.specs.Text.{field, bytesText, numbersText, rowText, refusalText}
 
-pub first-parts : (operations counter : ℕ)
-    → text "operations" ++ field operations ++ text " counter" ++ field counter ++ text "\n" ≡ firstText operations counter
-unfolding text field firstText line
-first-parts operations counter =
-    ap (λ (l : List ℕ). text "operations" ++ (text " " ++ l))
-    (append-assoc (decimal operations ++ text " counter") (field counter) (text "\n")
-    ∙ append-assoc (decimal operations) (text " counter") (field counter ++ text "\n"))
+pub line-parts : (word other : List ℕ) (a b : ℕ)
+    → word ++ field a ++ text " " ++ other ++ field b ++ text "\n" ≡ line (word ∷ decimal a ∷ other ∷ decimal b ∷ [])
+unfolding field line
+line-parts word other a b = simp append-assoc
 
 pub refusal-parts : (number place : ℕ) → text "refused" ++ field number ++ field place ++ text "\n" ≡ refusalText number place
 unfolding text field refusalText line

@@ -5,9 +5,10 @@ ghost use mathlib.Core.Path.{_≡_};
 ghost use mathlib.Core.List.{[], _∷_, _++_};
 ghost use lib.ListN.{length};
 ghost use Rattle.recording.specs.Numbers.{numberAt};
-ghost use Rattle.meaning.specs.Printed.{text, decimal};
+ghost use Rattle.meaning.specs.Printed.{text, decimal, line, headingOf};
 ghost use Rattle.lines.specs.Text.{kindText, field, bytesText, numbersText, rowText, rowTexts, firstText, reportText, refusalText};
-ghost use Rattle.lines.specs.Lays.{Room, Lays};
+ghost use Rattle.laying.specs.Lays.{Lays};
+ghost use Rattle.lines.specs.Room.{Room};
 
 fn wide(x: u8) -> u32
     ensures { λ r. ⌜ r ≡ x ⌝ }
@@ -137,16 +138,26 @@ fn lay_rows(out: &mut [u8; 84009], at: usize, report: &[u8; 20489], m: usize) ->
     next
 }
 
+// A line of a word, a number, another word and another number.
+fn lay_line(out: &mut [u8; 84009], word: &[u8], a: u32, other: &[u8], b: u32) -> usize
+    requires { ⌜ Room (now out) 0 (length (now word) + length (now other) + 24) ⌝ }
+    ensures { λ r. ⌜ Lays (now (out .entry)) 0 (line (now (word .entry) ∷ decimal a ∷ now (other .entry) ∷ decimal b ∷ [])) (now (out .exit)) r ⌝ }
+    ensures { λ r. ⌜ r ≤ length (now (word .entry)) + length (now (other .entry)) + 24 ⌝ }
+{
+    let mut next = lay_word(out, 0, word);
+    next = lay_field(out, next, a);
+    next = lay_byte(out, next, b' ');
+    next = lay_word(out, next, other);
+    next = lay_field(out, next, b);
+    end_line(out, next)
+}
+
 fn lay_first(out: &mut [u8; 84009], operations: u32, counter: u32) -> usize
     requires { ⌜ Room (now out) 0 41 ⌝ }
     ensures { λ r. ⌜ Lays (now (out .entry)) 0 (firstText operations counter) (now (out .exit)) r ⌝ }
     ensures { λ r. ⌜ r ≤ 41 ⌝ }
 {
-    let mut next = lay_word(out, 0, b"operations");
-    next = lay_field(out, next, operations);
-    next = lay_word(out, next, b" counter");
-    next = lay_field(out, next, counter);
-    end_line(out, next)
+    lay_line(out, b"operations", operations, b"counter", counter)
 }
 
 // The text of a report of at most 1,024 rows: its first line, and one for each row.
@@ -171,4 +182,13 @@ pub fn lay_refusal(out: &mut [u8; 84009], number: u32, place: u32) -> usize
     next = lay_field(out, next, number);
     next = lay_field(out, next, place);
     end_line(out, next)
+}
+
+// The line before a recording of a drawer.
+pub fn lay_heading(out: &mut [u8; 84009], number: u32, place: u32) -> usize
+    requires { ⌜ Room (now out) 0 39 ⌝ }
+    ensures { λ r. ⌜ Lays (now (out .entry)) 0 (headingOf number place) (now (out .exit)) r ⌝ }
+    ensures { λ r. ⌜ r ≤ 39 ⌝ }
+{
+    lay_line(out, b"recording", number, b"offset", place)
 }

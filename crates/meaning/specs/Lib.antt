@@ -9,7 +9,9 @@ pub mod Contention
 pub mod TakenIn
 pub mod Report
 pub mod Printed
+pub mod Drawer
 pub mod Starred
 pub mod Cases
 pub mod Plain
 pub mod Direct
+pub mod Drawers

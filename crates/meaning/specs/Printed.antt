@@ -63,3 +63,7 @@ printedOf h (accepted st) =
 -- "It takes in at most 65,537 bytes; more would not change the answer."
 unfoldable pub printed : List ℕ → List ℕ
 printed s = let t : List ℕ = take 65537 s in printedOf (height t) (outcome t)
+
+-- the line before each recording of a drawer: "its number, its offset in the file", the number from 1 on
+unfoldable pub headingOf : ℕ → ℕ → List ℕ
+headingOf number at = line (text "recording" ∷ decimal number ∷ text "offset" ∷ decimal at ∷ [])

@@ -54,5 +54,9 @@ pub fn place_addition(
             return listing::list_in(queue, turns, rows, listed, root);
         }
     }
-    listed
+    // Field by field: a copy of the whole would carry its padding through every record.
+    Listed {
+        waiting: listed.waiting,
+        rank: listed.rank,
+    }
 }

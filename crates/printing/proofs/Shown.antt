@@ -22,8 +22,8 @@ use Rattle.entries.specs.Promises.{answerOf, Reports}
 use Rattle.entries.specs.declared.Reply.{Reply}
 use Rattle.entries.proofs.Laws.{refusal-positive}
 use Rattle.lines.specs.Text.{kindText, rowText, rowTexts, firstText, reportText, refusalText}
-use Rattle.lines.specs.Lays.{Lays}
-use Rattle.lines.proofs.Laid.{lays-all}
+use Rattle.laying.specs.Lays.{Lays}
+use Rattle.laying.proofs.Laid.{lays-all}
 use Rattle.printing.specs.Prints.{Prints}
 use Rattle.printing.proofs.Fits.{Fits, accepted-fits}
 

@@ -1,8 +1,13 @@
-// The text that the printing program prints of a recording.
+// The text that the printing programs print of a recording.
+use lines::lay_heading;
 use lines::lay_refusal;
 use lines::lay_report;
+ghost use Prim.Native.Nat.{_+_, _≤_};
 ghost use mathlib.Core.Path.{_≡_};
+ghost use mathlib.Core.List.{_++_};
 ghost use lib.ListN.{length, take};
+ghost use Rattle.meaning.specs.Printed.{printed, headingOf};
+ghost use Rattle.laying.specs.Lays.{Lays};
 ghost use Rattle.printing.specs.Prints.{Prints};
 
 // That the buffer has its length, for the proofs.
@@ -34,4 +39,37 @@ pub fn print(rec: &[u8], out: &mut [u8; 84009]) -> usize
         return lay_refusal(out, reply.number, reply.place);
     }
     lay_report(out, &report)
+}
+
+// The first n bytes of a text at a place; the place after them.
+fn lay_text(out: &mut [u8], at: usize, text: &[u8; 84009], n: usize) -> usize
+    requires { ⌜ (n ≤ 84009) × (n ≤ length (now text)) × (at + n ≤ length (now out)) ⌝ }
+    ensures { λ r. ⌜ Lays (now (out .entry)) at (take n (now (text .entry))) (now (out .exit)) r ⌝ }
+    ensures { λ r. ⌜ r ≡ at + n ⌝ }
+{
+    for j in 0..n {
+        out[at + j] = text[j];
+    }
+    at + n
+}
+
+// The heading and the text of a recording of a drawer at a place of out, each by way of text; the place after them.
+pub fn print_in_drawer(
+    rec: &[u8],
+    number: u32,
+    place: u32,
+    text: &mut [u8; 84009],
+    out: &mut [u8],
+    at: usize,
+) -> usize
+    requires { ⌜ at + 84048 ≤ length (now out) ⌝ }
+    ensures { λ r. ⌜ Lays (now (out .entry)) at (headingOf number place ++ printed (now (rec .entry))) (now (out .exit)) r ⌝ }
+    ensures { λ r. ⌜ r ≤ at + 84048 ⌝ }
+{
+    sized(*text);
+    let n = lay_heading(text, number, place);
+    let next = lay_text(out, at, text, n);
+    let m = print(rec, text);
+    sized(*text);
+    lay_text(out, next, text, m)
 }

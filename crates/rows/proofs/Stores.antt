@@ -1,17 +1,18 @@
 -- Numbers stored one after another, as `sets` of the list: what stands where afterwards, a row of five, and four bytes; and one row closed.
 use Prim.Native.Nat.{ℕ, zero, suc, _+_, _*_, _/_, _%_, _^_, _≤_, _<_}
-use mathlib.Core.Bool.{true, false}
+use mathlib.Core.Bool.{Bool, true, false}
 use mathlib.Core.Path.{_≡_, refl, sym, ap, _∙_}
 use mathlib.Core.List.{List, [], _∷_, _++_, append-assoc, append-nil}
 use native.Mathlib.Omega.{arith}
 use native.Mathlib.Nat.{add-zero}
 use native.Mathlib.Numerals.{add-one}
 use lib.ListN.{length, getD, take, drop, set, length-set, length-append, take-append-drop}
-use lib.Seq.{sets, sets-eq, set-split, length-take-le, getD-set-same, getD-set-other, take-at, drop-at, drop-drop}
+use lib.Seq.{sets, sets-eq, set-split, length-take-le, getD-set-same, getD-set-other, set-getD, set-comm, take-at, drop-at, drop-drop}
 use borrow.Author.Tests.{eq-eqb, ne-eqb}
 use Rattle.arrays.specs.Arrays.{asFun}
 use Rattle.recording.specs.Numbers.{fourBytes}
-use Rattle.rows.specs.Rows.{withRow, unfinishedBy, processBy, closedNumber, closed, numbersBytes, laidAt, laidReport}
+use Rattle.meaning.specs.Report.{one}
+use Rattle.rows.specs.Rows.{withRow, steppedNumbers, unfinishedBy, processBy, closedNumber, closed, numbersBytes, laidAt, laidReport}
 use Rattle.rows.proofs.Laws.{withRow-is, closed-other, closed-next, length-numbersBytes}
 
 sets-else : (vs l : List ℕ) (n j : ℕ) → ((k : ℕ) → k < length vs → j ≡ n + k → ⊥) → getD (sets l n vs) j 0 ≡ getD l j 0
@@ -51,6 +52,59 @@ row-stored l i a b c d e room =
     rw (five-stored l (5 * i) a b c d e)
     (withRow-is (asFun l) i ns (asFun (sets l (5 * i) ns)) (λ k h. sets-there ns l (5 * i) k room h)
     (λ j n. sets-else ns l (5 * i) j (λ k h e. n (omega arith))))
+
+pub seconds-beside : (l : List ℕ) (i b c : ℕ) → getD (set (set l (5 * i + 1) b) (5 * i + 2) c) (5 * i + 4) 0 ≡ getD l (5 * i + 4) 0
+seconds-beside l i b c =
+    getD-set-other (set l (5 * i + 1) b) (5 * i + 2) (5 * i + 4) c 0 (λ d. omega arith)
+    ∙ getD-set-other l (5 * i + 1) (5 * i + 4) b 0 (λ d. omega arith)
+
+-- a step's stores, of steps, answer and seconds, and at the last one of the first number: the rank is not among them
+module _ (l : List ℕ) (i b c e : ℕ) where
+  abbrev pub stepped : List ℕ
+  stepped = set (set (set l (5 * i + 1) b) (5 * i + 2) c) (5 * i + 4) e
+
+  pub first-beside : getD stepped (5 * i) 0 ≡ getD l (5 * i) 0
+  first-beside =
+      getD-set-other (set (set l (5 * i + 1) b) (5 * i + 2) c) (5 * i + 4) (5 * i) e 0 (λ d. omega arith)
+      ∙ getD-set-other (set l (5 * i + 1) b) (5 * i + 2) (5 * i) c 0 (λ d. omega arith)
+      ∙ getD-set-other l (5 * i + 1) (5 * i) b 0 (λ d. omega arith)
+
+  -- the five stores of `row-stored`, with the rank that is there already
+  first-stored : (a : ℕ) → 5 * i + 5 ≤ length l → asFun (set stepped (5 * i) a) ≡ withRow (asFun l) i (a ∷ b ∷ c ∷ getD l (5 * i + 3) 0 ∷ e ∷ [])
+  first-stored a room =
+      let three : List ℕ = set (set (set l (5 * i) a) (5 * i + 1) b) (5 * i + 2) c in
+      let rank : getD three (5 * i + 3) 0 ≡ getD l (5 * i + 3) 0 =
+      getD-set-other (set (set l (5 * i) a) (5 * i + 1) b) (5 * i + 2) (5 * i + 3) c 0 (λ d. omega arith)
+      ∙ getD-set-other (set l (5 * i) a) (5 * i + 1) (5 * i + 3) b 0 (λ d. omega arith)
+      ∙ getD-set-other l (5 * i) (5 * i + 3) a 0 (λ d. omega arith) in
+      let stores : set stepped (5 * i) a ≡ set three (5 * i + 4) e =
+      set-comm (set (set l (5 * i + 1) b) (5 * i + 2) c) (5 * i + 4) (5 * i) e a (λ d. omega arith)
+      ∙ ap (λ (x : List ℕ). set x (5 * i + 4) e)
+      (set-comm (set l (5 * i + 1) b) (5 * i + 2) (5 * i) c a (λ d. omega arith)
+      ∙ ap (λ (x : List ℕ). set x (5 * i + 2) c) (set-comm l (5 * i + 1) (5 * i) b a (λ d. omega arith))) in
+      ap asFun (stores ∙ ap (λ (x : List ℕ). set x (5 * i + 4) e) (sym (set-getD three (5 * i + 3) 0)))
+      ∙ row-stored l i a b c (getD three (5 * i + 3) 0) e room
+      ∙ ap (λ (d : ℕ). withRow (asFun l) i (a ∷ b ∷ c ∷ d ∷ e ∷ [])) rank
+
+  first-stays : 5 * i + 5 ≤ length l → asFun stepped ≡ withRow (asFun l) i (getD l (5 * i) 0 ∷ b ∷ c ∷ getD l (5 * i + 3) 0 ∷ e ∷ [])
+  first-stays room = ap asFun (sym (set-getD stepped (5 * i) 0)) ∙ first-stored (getD stepped (5 * i) 0) room ∙ rw first-beside
+
+module _ (l : List ℕ) (i contention answer e : ℕ) (finished second : Bool) (room : 5 * i + 5 ≤ length l) (s : e ≡ getD l (5 * i + 4) 0 + one second) where
+  pub last-step : finished ≡ true
+      → asFun (set (stepped l i (getD l (5 * i + 1) 0 + 1) answer e) (5 * i) (getD (stepped l i (getD l (5 * i + 1) 0 + 1) answer e) (5 * i) 0 + 256 + contention))
+      ≡ withRow (asFun l) i (steppedNumbers (asFun l) i finished contention answer second)
+  unfolding asFun steppedNumbers one
+  last-step t =
+      let first : getD (stepped l i (getD l (5 * i + 1) 0 + 1) answer e) (5 * i) 0 + 256 + contention ≡ getD l (5 * i) 0 + one finished * (2 ^ 8 + contention) =
+      rw (first-beside, t) (omega arith) in
+      first-stored l i (getD l (5 * i + 1) 0 + 1) answer e _ room ∙ rw (first, s)
+
+  pub other-step : finished ≡ false
+      → asFun (stepped l i (getD l (5 * i + 1) 0 + 1) answer e) ≡ withRow (asFun l) i (steppedNumbers (asFun l) i finished contention answer second)
+  unfolding asFun steppedNumbers one
+  other-step t =
+      let first : asFun l (5 * i) + one finished * (2 ^ 8 + contention) ≡ getD l (5 * i) 0 = rw t (omega arith) in
+      first-stays l i (getD l (5 * i + 1) 0 + 1) answer e room ∙ rw (first, s)
 
 -- the turn of row i, when those before it are closed
 module _ (greatest f : ℕ → ℕ) (i : ℕ) (l : List ℕ) (before : asFun l ≡ closed greatest i f) where

@@ -16,13 +16,6 @@ fn counted(b: bool) -> u32
     if b { 1 } else { 0 }
 }
 
-// What a step adds to a row's first number: the last one the finished byte and the contention, any other nothing.
-fn ending(finished: bool, contention: u8) -> u32
-    ensures { λ r. ⌜ (r ≡ one finished * (2 ^ 8 + contention)) × (r < 2 ^ 9) ⌝ }
-{
-    if finished { 256 + contention as u32 } else { 0 }
-}
-
 // Five numbers as row i.
 fn lay_row(rows: &mut [u32], i: usize, head: u32, steps: u32, answer: u32, rank: u32, seconds: u32)
     requires { ⌜ (i < 1024) × (5 * i + 5 ≤ length (now rows)) ⌝ }
@@ -57,11 +50,12 @@ pub fn step_row(
     ensures { λ r. ⌜ asFun (now (rows .exit)) ≡ withRow (asFun (now (rows .entry))) i (steppedNumbers (asFun (now (rows .entry))) i finished contention answer second) ⌝ }
 {
     let at = 5 * i;
-    let head = rows[at] + ending(finished, contention);
-    let steps = rows[at + 1] + 1;
-    let rank = rows[at + 3];
-    let seconds = rows[at + 4] + counted(second);
-    lay_row(rows, i, head, steps, answer, rank, seconds);
+    rows[at + 1] = rows[at + 1] + 1;
+    rows[at + 2] = answer;
+    rows[at + 4] = rows[at + 4] + counted(second);
+    if finished {
+        rows[at] = rows[at] + 256 + contention as u32;
+    }
 }
 
 // The first m rows at the end: an unfinished one gets the contention kept for its process.
@@ -79,7 +73,7 @@ pub fn close(rows: &mut [u32], m: usize, greatest: &[u8])
 }
 
 // Four bytes of x, the highest first, from place at on.
-fn lay_number(out: &mut [u8], at: usize, x: u32)
+pub fn lay_number(out: &mut [u8], at: usize, x: u32)
     requires { ⌜ at + 4 ≤ length (now out) ⌝ }
     ensures { λ r. ⌜ now (out .exit) ≡ laidAt (now (out .entry)) at 4 (fourBytes x) ⌝ }
 {

@@ -1,5 +1,6 @@
--- `attempt`: each arm is one case of `attempted`, over the bounds that the first three calls give.
-use mathlib.Core.Path.{sym, _∙_}
+-- `attempt`: each arm is one case of `attempted`, over the bounds that its own calls give.
+use Prim.Native.Nat.{_+_, _^_}
+use mathlib.Core.Path.{refl, sym, _∙_}
 use native.Mathlib.Omega.{arith}
 use borrow.Author.Needs.{needs}
 use Rattle.counts.proofs.Laws.{attempted-failed, attempted-other}
@@ -7,14 +8,34 @@ use Rattle.counts.proofs.Attempts.{Bounds, middle, left-read, right-rea
 use Rattle.counts.proofs.attempt.Statement.{statement}
 use Rattle.counts.proofs.attempt.Tie as tie
 
-bounds : (c : tie.After-leaves-under2)
-    → Bounds (c .before .before .before .args .p) (c .before .before .before .args .l) (c .before .before .first-under .result)
-    (c .leaves-under2 .result) (c .before .leaves-under .result)
-bounds c = record {
-  first = c .before .before .first-under .ensures .0;
-  inside = c .before .before .first-under .ensures .1;
-  left = c .leaves-under2 .ensures;
-  both = c .before .leaves-under .ensures;
+left-bounds : (c : tie.After-leaves-under)
+    → Bounds (c .before .before .before .args .p) (c .before .before .before .args .l) (c .before .first-under .result) (c .leaves-under .result)
+    (2 ^ (c .before .before .before .args .l + 1))
+left-bounds c = record {
+  first = c .before .first-under .ensures .0;
+  inside = c .before .first-under .ensures .1;
+  left = c .leaves-under .ensures;
+  both = refl;
+}
+
+right-bounds : (c : tie.After-leaves-under3)
+    → Bounds (c .before .before .before .before .args .p) (c .before .before .before .before .args .l) (c .before .before .first-under2 .result)
+    (c .before .leaves-under2 .result) (c .leaves-under3 .result)
+right-bounds c = record {
+  first = c .before .before .first-under2 .ensures .0;
+  inside = c .before .before .first-under2 .ensures .1;
+  left = c .before .leaves-under2 .ensures;
+  both = c .leaves-under3 .ensures;
+}
+
+node-bounds : (c : tie.After-leaves-under4)
+    → Bounds (c .before .before .before .before .args .p) (c .before .before .before .before .args .l) (c .before .first-under3 .result)
+    (2 ^ c .before .before .before .before .args .l) (c .leaves-under4 .result)
+node-bounds c = record {
+  first = c .before .first-under3 .ensures .0;
+  inside = c .before .first-under3 .ensures .1;
+  left = refl;
+  both = c .leaves-under4 .ensures;
 }
 
 add-first-under : tie.Need-add-first-under
@@ -23,26 +44,53 @@ add-first-under c = search needs
 first-under-requires : tie.Need-first-under-requires
 first-under-requires c κs = search needs
 
-add-leaves-under : tie.Need-add-leaves-under
-add-leaves-under c = search needs
-
 leaves-under-requires : tie.Need-leaves-under-requires
 leaves-under-requires c κs = search needs
 
-add-hi : tie.Need-add-hi
-add-hi c = search needs
+add-mid : tie.Need-add-mid
+add-mid c = omega (arith, middle (left-bounds c))
+
+read-child-requires : tie.Need-read-child-requires
+read-child-requires c κs = let m = middle (left-bounds (c .before .before)) in search needs
+
+add-first-under-2 : tie.Need-add-first-under-2
+add-first-under-2 c = search needs
+
+first-under-requires-2 : tie.Need-first-under-requires-2
+first-under-requires-2 c κs = search needs
 
 leaves-under-requires-2 : tie.Need-leaves-under-requires-2
 leaves-under-requires-2 c κs = search needs
 
-add-mid : tie.Need-add-mid
-add-mid c = omega (arith, middle (bounds c))
+add-mid-2 : tie.Need-add-mid-2
+add-mid-2 c = omega (arith, middle record { first = c .before .first-under2 .ensures .0; inside = c .before .first-under2 .ensures .1; left = c .leaves-under2 .ensures; both = refl })
 
-read-child-requires : tie.Need-read-child-requires
-read-child-requires c κs = let m = middle (bounds (c .before .before .before)) in search needs
+add-leaves-under : tie.Need-add-leaves-under
+add-leaves-under c = search needs
+
+leaves-under-requires-3 : tie.Need-leaves-under-requires-3
+leaves-under-requires-3 c κs = search needs
+
+add-hi : tie.Need-add-hi
+add-hi c = search needs
 
 read-child-requires-2 : tie.Need-read-child-requires-2
 read-child-requires-2 c κs = search needs
+
+add-first-under-3 : tie.Need-add-first-under-3
+add-first-under-3 c = search needs
+
+first-under-requires-3 : tie.Need-first-under-requires-3
+first-under-requires-3 c κs = search needs
+
+add-leaves-under-2 : tie.Need-add-leaves-under-2
+add-leaves-under-2 c = search needs
+
+leaves-under-requires-4 : tie.Need-leaves-under-requires-4
+leaves-under-requires-4 c κs = search needs
+
+add-hi-2 : tie.Need-add-hi-2
+add-hi-2 c = search needs
 
 store-requires : tie.Need-store-requires
 store-requires c κs = search needs
@@ -53,7 +101,7 @@ same-length c = search needs
 returns : tie.Need-returns
 returns c =
     c .before .read-child .ensures
-    ∙ left-read (bounds (c .before .before .before .before .before)) _ _ _ (c .before .before .before .before .match .keys1)
+    ∙ left-read (left-bounds (c .before .before .before .before)) _ _ _ (c .before .before .before .before .before .before .match .keys1)
 
 same-length-2 : tie.Need-same-length-2
 same-length-2 c = search needs
@@ -61,7 +109,7 @@ same-length-2 c = search needs
 returns-2 : tie.Need-returns-2
 returns-2 c =
     c .before .read-child2 .ensures
-    ∙ right-read (bounds (c .before .before .before .before .before)) _ _ _ (c .before .before .before .before .match .keys2)
+    ∙ right-read (right-bounds (c .before .before .before .before)) _ _ _ (c .before .before .before .before .before .before .before .match .keys2)
 
 same-length-3 : tie.Need-same-length-3
 same-length-3 c = search needs
@@ -69,8 +117,8 @@ same-length-3 c = search needs
 returns-3 : tie.Need-returns-3
 returns-3 c =
     c .store .ensures _
-    ∙ node-taken-in (bounds (c .before .before .before .before .before)) _ _ _ (c .before .before .before .before .match .keys3)
-    (c .before .before .before .if1 .taken)
+    ∙ node-taken-in (node-bounds (c .before .before .before)) _ _ _ (c .before .before .before .before .before .before .match .keys3)
+    (c .before .before .before .before .before .if1 .taken)
 
 returns-4 : tie.Need-returns-4
 returns-4 c = sym (attempted-failed _ _ _ _ _ (c .before .match .keys3) (c .if1 .left))
@@ -84,13 +132,22 @@ attempt-spec =
     (tie.spec
     add-first-under
     first-under-requires
-    add-leaves-under
     leaves-under-requires
-    add-hi
-    leaves-under-requires-2
     add-mid
     read-child-requires
+    add-first-under-2
+    first-under-requires-2
+    leaves-under-requires-2
+    add-mid-2
+    add-leaves-under
+    leaves-under-requires-3
+    add-hi
     read-child-requires-2
+    add-first-under-3
+    first-under-requires-3
+    add-leaves-under-2
+    leaves-under-requires-4
+    add-hi-2
     store-requires
     same-length
     returns

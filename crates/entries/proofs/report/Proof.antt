@@ -5,7 +5,8 @@ use Rattle.meaning.specs.Layout.{height}
 use Rattle.meaning.specs.Report.{answerWith, bufferWith}
 use Rattle.rules.proofs.Laws.{header-passes}
 use Rattle.entries.specs.Promises.{answerOf}
-use Rattle.entries.proofs.Answers.{head-refused, reports}
+use Rattle.engine.proofs.Whole.{head-refused}
+use Rattle.entries.proofs.Answers.{reports}
 use borrow.Author.Needs.{needs}
 use Rattle.entries.proofs.report.Statement.{statement}
 use Rattle.entries.proofs.report.Tie as tie

@@ -2,7 +2,8 @@
 use mathlib.Core.Path.{refl, sym}
 use Rattle.meaning.specs.Layout.{height}
 use Rattle.rules.proofs.Laws.{header-passes}
-use Rattle.entries.proofs.Answers.{head-passed, report-refused, report-short, report-laid, few-operations}
+use Rattle.engine.proofs.Whole.{head-passed}
+use Rattle.entries.proofs.Answers.{report-refused, report-short, report-laid, few-of-ends, bytes-of-ends}
 use native.Mathlib.Omega.{arith}
 use borrow.Author.Needs.{needs}
 use Rattle.entries.proofs.report_in.Statement.{statement}
@@ -35,7 +36,7 @@ add-needed c = search needs
 
 cast-place : tie.Need-cast-place
 cast-place c =
-    omega (arith, few-operations _ _ _ _ (header-passes _ ((c .before .before .before .before .before .before .before .before .before .before .before .before .before .before .before .before .before .before .before .before .before .before .before .before .pre) .0) .enough) ((c .before .before .before .before .before .before .before .before .before .before .before .before .run) .ensures))
+    omega (arith, few-of-ends ((c .before .before .before .before .before .before .before .before .before .before .before .before .run) .ensures))
 
 same-length : tie.Need-same-length
 same-length c = search needs
@@ -57,8 +58,9 @@ returns c =
 lay-report-requires : tie.Need-lay-report-requires
 lay-report-requires c κs =
     let room = (c .before .before .before .before .before .before .before .before .before .before .before .before .before .before .before .before .before .before .before .before .before .before .before .before .before .before .pre) .1 in
-    let f = few-operations _ _ _ _ (header-passes _ ((c .before .before .before .before .before .before .before .before .before .before .before .before .before .before .before .before .before .before .before .before .before .before .before .before .before .before .pre) .0) .enough) ((c .before .before .before .before .before .before .before .before .before .before .before .before .before .before .run) .ensures) in
-    (omega (arith, f .0), omega (arith, (c .before .before .before .before .before .before .before .before .before .before .before .before .before .before .run) .kept, room .sizes .rowsFit, room .operations _ (f .0) (f .1)), omega (arith, (c .before .before .if2) .left))
+    let few = few-of-ends ((c .before .before .before .before .before .before .before .before .before .before .before .before .before .before .run) .ensures) in
+    let bytes = bytes-of-ends (header-passes _ ((c .before .before .before .before .before .before .before .before .before .before .before .before .before .before .before .before .before .before .before .before .before .before .before .before .before .before .pre) .0) .enough) ((c .before .before .before .before .before .before .before .before .before .before .before .before .before .before .run) .ensures) in
+    (omega (arith, few), omega (arith, (c .before .before .before .before .before .before .before .before .before .before .before .before .before .before .run) .kept, room .sizes .rowsFit, room .operations _ few bytes), omega (arith, (c .before .before .if2) .left))
 
 same-length-5 : tie.Need-same-length-5
 same-length-5 c = search needs

@@ -4,7 +4,8 @@ use mathlib.Core.Path.{sym, ap}
 use lib.ListN.{length}
 use borrow.Author.Needs.{needs}
 use Rattle.lines.proofs.Digits.{decimal-digit, decimal-last, decimal-few, decimal-longer}
-use Rattle.lines.proofs.Laid.{lays-then, lays-as, room-left}
+use Rattle.laying.proofs.Laid.{lays-then, lays-as}
+use Rattle.lines.proofs.Left.{room-left}
 use Prim.Native.Nat.{ℕ, _<_}
 use borrow.Fn.Kinds.{In}
 use borrow.Fn.PlainCycle.{Measures, is, falls, and}

@@ -1,7 +1,7 @@
 -- `lay_byte`: one store.
 use native.Mathlib.Omega.{arith}
 use borrow.Author.Needs.{needs}
-use Rattle.lines.proofs.Laid.{lays-byte}
+use Rattle.laying.proofs.Laid.{lays-byte}
 use Rattle.lines.proofs.lay_byte.Statement.{statement}
 use Rattle.lines.proofs.lay_byte.Tie as tie
 

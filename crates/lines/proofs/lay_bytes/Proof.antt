@@ -5,7 +5,7 @@ use borrow.Author.Needs.{needs}
 use Rattle.meaning.specs.Printed.{decimal}
 use Rattle.lines.specs.Text.{field, bytesText}
 use Rattle.lines.proofs.Digits.{decimal-few}
-use Rattle.lines.proofs.Laid.{lays-then, lays-as}
+use Rattle.laying.proofs.Laid.{lays-then, lays-as}
 use Rattle.lines.proofs.lay_bytes.Statement.{statement}
 use Rattle.lines.proofs.lay_bytes.Tie as tie
 

@@ -3,7 +3,8 @@ use borrow.Author.Needs.{needs}
 use Rattle.meaning.specs.Printed.{text}
 use Rattle.lines.specs.Text.{field}
 use Rattle.lines.proofs.Digits.{decimal-few}
-use Rattle.lines.proofs.Laid.{lays-then, room-left}
+use Rattle.laying.proofs.Laid.{lays-then}
+use Rattle.lines.proofs.Left.{room-left}
 use native.Mathlib.Omega.{arith}
 use Rattle.lines.proofs.lay_field.Statement.{statement}
 use Rattle.lines.proofs.lay_field.Tie as tie

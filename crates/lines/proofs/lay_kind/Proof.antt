@@ -3,7 +3,7 @@ use borrow.Author.Needs.{needs}
 use borrow.Author.Tests.{eq-eqb, ne-eqb}
 use Rattle.meaning.specs.Printed.{text}
 use Rattle.lines.specs.Text.{kindText}
-use Rattle.lines.proofs.Laid.{lays-as}
+use Rattle.laying.proofs.Laid.{lays-as}
 use Rattle.lines.proofs.lay_kind.Statement.{statement}
 use Rattle.lines.proofs.lay_kind.Tie as tie
 

@@ -3,7 +3,7 @@ use mathlib.Core.Path.{ap}
 use borrow.Author.Needs.{needs}
 use Rattle.meaning.specs.Printed.{text}
 use Rattle.lines.specs.Text.{field, numbersText}
-use Rattle.lines.proofs.Laid.{lays-then, lays-as}
+use Rattle.laying.proofs.Laid.{lays-then, lays-as}
 use Rattle.lines.proofs.lay_numbers.Statement.{statement}
 use Rattle.lines.proofs.lay_numbers.Tie as tie
 

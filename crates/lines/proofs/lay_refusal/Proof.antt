@@ -1,7 +1,7 @@
 -- `lay_refusal`: four parts one after another.
 use borrow.Author.Needs.{needs}
 use Rattle.meaning.specs.Printed.{text}
-use Rattle.lines.proofs.Laid.{lays-then, lays-as}
+use Rattle.laying.proofs.Laid.{lays-then, lays-as}
 use Rattle.lines.proofs.Texts.{refusal-parts}
 use Rattle.lines.proofs.lay_refusal.Statement.{statement}
 use Rattle.lines.proofs.lay_refusal.Tie as tie

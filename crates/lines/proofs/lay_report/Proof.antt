@@ -4,7 +4,7 @@ use mathlib.Core.Path.{_≡_, ap₂}
 use mathlib.Core.List.{List, _++_}
 use borrow.Author.Needs.{needs}
 use Rattle.lines.specs.Text.{rowTexts, firstText, reportText}
-use Rattle.lines.proofs.Laid.{lays-then, lays-as}
+use Rattle.laying.proofs.Laid.{lays-then, lays-as}
 use Rattle.lines.proofs.lay_report.Statement.{statement}
 use Rattle.lines.proofs.lay_report.Tie as tie
 

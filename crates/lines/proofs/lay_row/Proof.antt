@@ -1,6 +1,6 @@
 -- `lay_row`: the two halves of a row's line.
 use borrow.Author.Needs.{needs}
-use Rattle.lines.proofs.Laid.{lays-then, lays-as}
+use Rattle.laying.proofs.Laid.{lays-then, lays-as}
 use Rattle.lines.proofs.Texts.{row-parts}
 use Rattle.lines.proofs.lay_row.Statement.{statement}
 use Rattle.lines.proofs.lay_row.Tie as tie

@@ -4,8 +4,8 @@ use mathlib.Core.Path.{_≡_}
 use borrow.Author.Needs.{needs}
 use native.Mathlib.Numerals.{add-one}
 use Rattle.lines.specs.Text.{rowTexts}
-use Rattle.lines.specs.Lays.{Lays}
-use Rattle.lines.proofs.Laid.{lays-none, lays-then, lays-as}
+use Rattle.laying.specs.Lays.{Lays}
+use Rattle.laying.proofs.Laid.{lays-none, lays-then, lays-as}
 use native.Mathlib.Omega.{arith}
 use Rattle.lines.proofs.lay_rows.Statement.{statement}
 use Rattle.lines.proofs.lay_rows.Tie as tie

@@ -3,8 +3,9 @@ use Prim.Native.Nat.{_≤_, _-_}
 use lib.ListN.{length, take}
 use lib.Seq.{take-all, length-take-le}
 use borrow.Author.Needs.{needs}
-use Rattle.lines.specs.Lays.{Lays}
-use Rattle.lines.proofs.Laid.{lays-none, lays-as, lays-more, room-left}
+use Rattle.laying.specs.Lays.{Lays}
+use Rattle.laying.proofs.Laid.{lays-none, lays-as, lays-more}
+use Rattle.lines.proofs.Left.{room-left}
 use native.Mathlib.Omega.{arith}
 use Rattle.lines.proofs.lay_word.Statement.{statement}
 use Rattle.lines.proofs.lay_word.Tie as tie

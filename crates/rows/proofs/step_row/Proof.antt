@@ -1,7 +1,9 @@
--- `step_row`: the row laid anew, each number from the old one; the room that the caller shows is that of each sum.
+-- `step_row`: each number stored from the old one; the room that the caller shows is that of each sum. The rank stays.
 use native.Mathlib.Omega.{arith}
+use lib.ListN.{length-set}
 use Rattle.arrays.specs.Arrays.{asFun}
-use Rattle.rows.specs.Rows.{steppedNumbers}
+use Rattle.meaning.specs.Report.{one}
+use Rattle.rows.proofs.Stores.{seconds-beside, first-beside, last-step, other-step}
 use borrow.Author.Needs.{needs}
 use Rattle.rows.proofs.step_row.Statement.{statement}
 use Rattle.rows.proofs.step_row.Tie as tie
@@ -9,91 +11,126 @@ use Rattle.rows.proofs.step_row.Tie as tie
 mul-at : tie.Need-mul-at
 mul-at c = search needs
 
-mul-head : tie.Need-mul-head
-mul-head c = search needs
+add-rows : tie.Need-add-rows
+add-rows c = search needs
 
-slice-read-head : tie.Need-slice-read-head
-slice-read-head c = search needs
+mul-rows : tie.Need-mul-rows
+mul-rows c = search needs
 
-ending-requires : tie.Need-ending-requires
-ending-requires c κs = search needs
+slice-read-rows : tie.Need-slice-read-rows
+slice-read-rows c = search needs
 
-add-head : tie.Need-add-head
+add-rows-2 : tie.Need-add-rows-2
 unfolding asFun
-add-head c = omega arith
+add-rows-2 c = omega arith
 
-add-steps : tie.Need-add-steps
-add-steps c = search needs
+add-rows-3 : tie.Need-add-rows-3
+add-rows-3 c = search needs
 
-mul-steps : tie.Need-mul-steps
-mul-steps c = search needs
+mul-rows-2 : tie.Need-mul-rows-2
+mul-rows-2 c = search needs
 
-slice-read-steps : tie.Need-slice-read-steps
-slice-read-steps c = search needs
+slice-write-rows : tie.Need-slice-write-rows
+slice-write-rows c = search needs
 
-add-steps-2 : tie.Need-add-steps-2
-unfolding asFun
-add-steps-2 c =
-    omega arith
+add-rows-4 : tie.Need-add-rows-4
+add-rows-4 c = search needs
 
-add-rank : tie.Need-add-rank
-add-rank c = search needs
+mul-rows-3 : tie.Need-mul-rows-3
+mul-rows-3 c = search needs
 
-mul-rank : tie.Need-mul-rank
-mul-rank c = search needs
+slice-write-rows-2 : tie.Need-slice-write-rows-2
+slice-write-rows-2 c = simp length-set (omega arith)
 
-slice-read-rank : tie.Need-slice-read-rank
-slice-read-rank c = search needs
+add-rows-5 : tie.Need-add-rows-5
+add-rows-5 c = search needs
 
-add-seconds : tie.Need-add-seconds
-add-seconds c = search needs
+mul-rows-4 : tie.Need-mul-rows-4
+mul-rows-4 c = search needs
 
-mul-seconds : tie.Need-mul-seconds
-mul-seconds c = search needs
-
-slice-read-seconds : tie.Need-slice-read-seconds
-slice-read-seconds c = search needs
+slice-read-rows-2 : tie.Need-slice-read-rows-2
+slice-read-rows-2 c = simp length-set (omega arith)
 
 counted-requires : tie.Need-counted-requires
 counted-requires c κs = search needs
 
-add-seconds-2 : tie.Need-add-seconds-2
+add-rows-6 : tie.Need-add-rows-6
 unfolding asFun
-add-seconds-2 c =
-    omega arith
+add-rows-6 c = rw seconds-beside (omega (arith, c .counted .ensures .1))
 
-lay-row-requires : tie.Need-lay-row-requires
-lay-row-requires c κs = search needs
+add-rows-7 : tie.Need-add-rows-7
+add-rows-7 c = search needs
+
+mul-rows-5 : tie.Need-mul-rows-5
+mul-rows-5 c = search needs
+
+slice-write-rows-3 : tie.Need-slice-write-rows-3
+slice-write-rows-3 c = simp length-set (omega arith)
+
+mul-rows-6 : tie.Need-mul-rows-6
+mul-rows-6 c = search needs
+
+slice-read-rows-3 : tie.Need-slice-read-rows-3
+slice-read-rows-3 c = simp length-set (omega arith)
+
+add-rows-8 : tie.Need-add-rows-8
+unfolding asFun
+add-rows-8 c = rw first-beside (omega arith)
+
+add-rows-9 : tie.Need-add-rows-9
+unfolding asFun
+add-rows-9 c = rw first-beside (omega arith)
+
+mul-rows-7 : tie.Need-mul-rows-7
+mul-rows-7 c = search needs
+
+slice-write-rows-4 : tie.Need-slice-write-rows-4
+slice-write-rows-4 c = simp length-set (omega arith)
 
 same-length : tie.Need-same-length
-same-length c = search needs
+same-length c = simp length-set
 
 returns : tie.Need-returns
-unfolding asFun steppedNumbers
 returns c =
-    rw ((c .before .before .before .before .before .before .before .before .ending) .ensures .0, (c .before .before .before .before .counted) .ensures .0) at ((c .before .before .lay-row) .ensures)
+    last-step _ _ _ _ _ _ _ (c .before .before .before .before .before .before .pre .1) (rw (seconds-beside, c .before .before .counted .ensures .0)) (c .before .if1 .taken)
+
+same-length-2 : tie.Need-same-length-2
+same-length-2 c = simp length-set
+
+returns-2 : tie.Need-returns-2
+returns-2 c =
+    other-step _ _ _ _ _ _ _ (c .before .before .before .before .before .pre .1) (rw (seconds-beside, c .before .counted .ensures .0)) (c .if1 .left)
 
 pub step-row-spec : {M : Type 1} → statement M
 step-row-spec =
     tie.close
     (tie.spec
     mul-at
-    mul-head
-    slice-read-head
-    ending-requires
-    add-head
-    add-steps
-    mul-steps
-    slice-read-steps
-    add-steps-2
-    add-rank
-    mul-rank
-    slice-read-rank
-    add-seconds
-    mul-seconds
-    slice-read-seconds
+    add-rows
+    mul-rows
+    slice-read-rows
+    add-rows-2
+    add-rows-3
+    mul-rows-2
+    slice-write-rows
+    add-rows-4
+    mul-rows-3
+    slice-write-rows-2
+    add-rows-5
+    mul-rows-4
+    slice-read-rows-2
     counted-requires
-    add-seconds-2
-    lay-row-requires
+    add-rows-6
+    add-rows-7
+    mul-rows-5
+    slice-write-rows-3
+    mul-rows-6
+    slice-read-rows-3
+    add-rows-8
+    add-rows-9
+    mul-rows-7
+    slice-write-rows-4
     same-length
-    returns)
+    returns
+    same-length-2
+    returns-2)

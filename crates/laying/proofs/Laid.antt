@@ -4,9 +4,9 @@ use native.Mathlib.Omega.{arith}
 use native.Mathlib.Numerals.{add-one}
 use mathlib.Core.Path.{_≡_, refl, sym, ap, _∙_, subst}
 use mathlib.Core.List.{List, [], _∷_, _++_, append-assoc, append-nil}
-use lib.ListN.{length, getD, take, drop, set, length-append, length-set, take-append-drop}
-use lib.Seq.{take-suc, take-suc-set, drop-set-lt, drop-drop}
-use Rattle.lines.specs.Lays.{Room, Lays}
+use lib.ListN.{length, getD, take, drop, set, length-append, length-set, length-drop, take-append-drop}
+use lib.Seq.{take-suc, take-suc-set, drop-set-lt, drop-drop, drop-append-le, length-take-le, take-at, drop-at}
+use Rattle.laying.specs.Lays.{Lays}
 
 pub lays-none : (l : List ℕ) (at : ℕ) → Lays l at [] l at
 lays-none l at = record { place = omega arith; front = sym (append-nil (take at l)); rest = refl; same = refl }
@@ -19,6 +19,31 @@ lays-byte l at x room =
       rest = drop-set-lt (at + 1) l at x (omega arith);
       same = length-set l at x;
     }
+
+-- bytes put in place of as many from a place on
+pub lays-at : (l : List ℕ) (at n : ℕ) (bytes : List ℕ) → length bytes ≡ n → at + n ≤ length l → Lays l at bytes (take at l ++ bytes ++ drop (at + n) l) (at + n)
+lays-at l at n bytes e room =
+    let front : length (take at l ++ bytes) ≡ at + n = simp (length-append, length-take-le at l (omega arith), e) in
+    record {
+      place = omega arith;
+      front = take-at (take at l ++ bytes) (drop (at + n) l) (at + n) front;
+      rest = drop-at (take at l ++ bytes) (drop (at + n) l) (at + n) front;
+      same = length-append (take at l ++ bytes) (drop (at + n) l) ∙ simp (front, length-drop) (omega arith);
+    }
+
+-- the same at the front of the k bytes that are lent from a place on
+pub lays-lent : (l : List ℕ) (at n k : ℕ) (bytes part : List ℕ) → length bytes ≡ n → n ≤ k → at + k ≤ length l → part ≡ bytes ++ drop n (take k (drop at l))
+    → Lays l at bytes (take at l ++ (part ++ drop k (drop at l))) (at + n)
+lays-lent l at n k bytes part e fits room laid =
+    subst (λ (x : List ℕ). Lays l at bytes x (at + n)) (append-assoc (take at l) bytes (drop (at + n) l) ∙ ap (λ (x : List ℕ). take at l ++ x) (sym rest)) (lays-at l at n bytes e (omega arith))
+  where
+    long : length (take k (drop at l)) ≡ k
+    long = length-take-le k (drop at l) (simp length-drop (omega arith))
+
+    rest : part ++ drop k (drop at l) ≡ bytes ++ drop (at + n) l
+    rest =
+        let inside : n ≤ length (take k (drop at l)) = omega (arith, long) in
+        rw (laid, append-assoc, ← drop-append-le n (take k (drop at l)) (drop k (drop at l)) inside, take-append-drop, drop-drop)
 
 pub lays-then : {l l′ l″ : List ℕ} {at n n′ : ℕ} {a b : List ℕ} → Lays l at a l′ n → Lays l′ n b l″ n′ → Lays l at (a ++ b) l″ n′
 lays-then {l} {l′} {l″} {at} {n} {n′} {a} {b} x y =
@@ -41,7 +66,3 @@ lays-all {l} {l′} {n} {a} x = sym (take-append-drop n l′) ∙ ap (λ (k : Li
 pub lays-more : {l l′ l″ : List ℕ} {at n n′ : ℕ} (w : List ℕ) (j : ℕ) → j < length w → Lays l at (take j w) l′ n → Lays l′ n (getD w j 0 ∷ []) l″ n′
     → Lays l at (take (j + 1) w) l″ n′
 lays-more w j inside x y = lays-as (rw add-one (sym (take-suc w j 0 inside))) (lays-then x y)
-
--- the room that is left
-pub room-left : {l l′ a : List ℕ} {at many n : ℕ} (few : ℕ) → Room l at many → Lays l at a l′ n → length a + few ≤ many → Room l′ n few
-room-left few r x b = record { long = x .same ∙ r .long; enough = omega (arith, x .place, r .enough) }

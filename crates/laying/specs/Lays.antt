@@ -1,13 +1,8 @@
 -- What laying bytes does to a buffer.
-use Prim.Native.Nat.{ℕ, _+_, _≤_}
+use Prim.Native.Nat.{ℕ, _+_}
 use mathlib.Core.Path.{_≡_}
 use mathlib.Core.List.{List, _++_}
 use lib.ListN.{length, take, drop}
-
--- the buffer has room for that many bytes from a place on
-pub record Room (buf : List ℕ) (at many : ℕ) : Type 0 where
-  pub long : length buf ≡ 84009
-  pub enough : at + many ≤ 84009
 
 -- These bytes are laid from a place on, and next is the place after them: what was before and after them stays.
 pub record Lays (before : List ℕ) (at : ℕ) (bytes after : List ℕ) (next : ℕ) : Type 0 where

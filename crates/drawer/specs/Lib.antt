@@ -1,0 +1,4 @@
+pub mod Cuts
+pub mod Lending
+pub mod Draws
+pub mod AsAlone

@@ -1,0 +1,1 @@
+// What laying bytes does to a buffer, with no code.
