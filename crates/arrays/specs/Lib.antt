@@ -1,1 +1,2 @@
 pub mod Arrays
+pub mod Numbers

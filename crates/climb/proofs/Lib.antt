@@ -1,2 +1,1 @@
 pub mod Numbered
-pub mod Passes

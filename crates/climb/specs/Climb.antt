@@ -1,34 +1,58 @@
--- The numbers of a climb: which node a step of an attempt is at, and where an SC leads.
-use Prim.Native.Nat.{ℕ, suc, _+_, _-_, _*_, _/_, _%_, _^_, _≤_, _<_}
+-- The numbers of a climb as the code has them: forms, spots and groups, and which node a spot is at.
+use Prim.Native.Nat.{ℕ, suc, _+_, _^_, _≤_, _<_}
 use mathlib.Core.Path.{_≡_}
-use mathlib.Core.Bool.{Bool, cond}
-use lib.Dec.{ltb}
+use mathlib.Core.Bool.{false}
+use lib.ListN.{length, getD}
+use Rattle.recording.specs.declared.Form.{Form as Told}
 use Rattle.meaning.specs.Tree.{leafOf, ancestor}
-use Rattle.meaning.specs.Access.{Attempt, first, second}
-use Rattle.meaning.specs.Steps.{passesBy, within}
+use Rattle.meaning.specs.Shape.{theOne, formed, highestShape}
+use Rattle.meaning.specs.Layout.{highestTree}
+use Rattle.spots.specs.Spot.{Spot, spotOf}
+use Rattle.climb.specs.declared.Spot.{Spot as At}
+use Rattle.climb.specs.declared.Group.{Group}
 
--- heights 1 to 6, a process of that tree, and a step number of an attempt
-pub record CanTry (h p s : ℕ) : Type 0 where
-  pub low : 1 ≤ h
-  pub high : h ≤ 6
-  pub process : p < 2 ^ h
-  pub from : 3 ≤ s
-  pub to : s ≤ 2 + 8 * h
+-- a height of 1 to 6, and a shape that is taken
+pub record Known (f : Told) : Type 0 where
+  pub low : 1 ≤ f .height
+  pub high : f .height ≤ highestTree
+  pub shape : f .shape ≤ highestShape
+
+-- the spot that the code's is
+unfoldable pub spotIs : At → Spot
+spotIs σ = record { level = σ .level; second = σ .second; position = σ .position }
+
+-- where idle processes and those that have not begun to climb are
+unfoldable pub nowhere : At
+nowhere = record { level = 0; second = false; position = 0 }
 
 pub record LeafOf (h p c : ℕ) : Type 0 where
   pub is : c ≡ leafOf h p
   pub high : c < 128
 
--- the node of that step
-pub record NodeOf (h p s x : ℕ) : Type 0 where
-  pub is : x ≡ ancestor (suc ((s - 3) / 8)) (leafOf h p)
+-- a process of the tree, and a level of its climb
+pub record CanClimb (h p l : ℕ) : Type 0 where
+  pub high : h ≤ highestTree
+  pub process : p < 2 ^ h
+  pub level : l < h
+
+-- the node that many levels above the first of the climb
+pub record NodeOf (h p l x : ℕ) : Type 0 where
+  pub is : x ≡ ancestor (suc l) (leafOf h p)
   pub low : 1 ≤ x
   pub high : x < 64
 
--- the attempt that a step number of 3 or above belongs to
-unfoldable pub attemptOf : ℕ → Attempt
-attemptOf s = cond (ltb ((s - 3) % 8) 4) first second
+-- how many groups an attempt reads, at whatever node; and the one that it reads at a position, from 1 on
+pub record GroupsOf (f : Told) (n : ℕ) : Type 0 where
+  pub is : (x : ℕ) → n ≡ length (formed f .shape .groups (f .height) x)
+  pub few : n ≤ 2
 
--- the step number after the SC of step s, at whatever node
-unfoldable pub afterStore : ℕ → ℕ → ℕ → Bool → ℕ
-afterStore h s x ok = within (s + passesBy (attemptOf s) x ok) (2 + 8 * h)
+pub record GroupOf (f : Told) (i : ℕ) (g : Group) : Type 0 where
+  pub from : (x : ℕ) → g .from ≡ getD (formed f .shape .groups (f .height) x) i (theOne 0) .from
+  pub count : (x : ℕ) → g .count ≡ getD (formed f .shape .groups (f .height) x) i (theOne 0) .count
+  pub some : 1 ≤ g .count
+  pub inside : g .from + g .count ≤ 2
+
+-- the spot of a step number, by the walk; and that it is in the tree
+pub record SpotAt (f : Told) (p s : ℕ) (σ : At) : Type 0 where
+  pub is : spotIs σ ≡ spotOf (formed f) p s
+  pub level : σ .level < f .height

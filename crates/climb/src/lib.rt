@@ -1,7 +1,35 @@
-// The numbers of a climb: a process's leaf, the node of a step number, and the step number after an SC.
+// The numbers of a climb: a process's leaf, the node of a spot, and what an attempt reads.
+use recording::Form;
 ghost use Prim.Native.Nat.{ℕ, _^_, _≤_, _<_};
 ghost use mathlib.Core.Path.{_≡_};
-ghost use Rattle.climb.specs.Climb.{CanTry, LeafOf, NodeOf, afterStore};
+ghost use mathlib.Core.Bool.{Bool};
+ghost use Rattle.meaning.specs.Shape.{highestShape, formed};
+ghost use Rattle.spots.specs.Spot.{lastStep};
+ghost use Rattle.climb.specs.Climb.{CanClimb, LeafOf, NodeOf, GroupsOf, GroupOf, SpotAt, nowhere};
+
+// Where in its climb an addition is: how many levels above the first node, the place in the attempt, and which attempt.
+pub struct Spot {
+    pub level: u32,
+    pub position: u32,
+    pub second: bool,
+}
+
+// Some children of a node that one access reads: from that number on, so many.
+pub struct Group {
+    pub from: usize,
+    pub count: usize,
+}
+
+// Where a climb begins.
+pub fn start() -> Spot
+    ensures { λ r. ⌜ r ≡ nowhere ⌝ }
+{
+    Spot {
+        level: 0,
+        position: 0,
+        second: false,
+    }
+}
 
 pub fn leaf_of(h: u32, p: usize) -> usize
     requires { ⌜ h ≤ 6 ⌝ }
@@ -11,25 +39,46 @@ pub fn leaf_of(h: u32, p: usize) -> usize
     (1usize << h) + p
 }
 
-// The node of a step of an attempt: the ancestor that many levels above the process's leaf.
-pub fn node_of(h: u32, p: usize, s: u32) -> usize
-    requires { ⌜ CanTry h p s ⌝ }
-    ensures { λ r. ⌜ NodeOf h p s r ⌝ }
+// The node so many levels above the first one that process p climbs.
+pub fn node_of(h: u32, p: usize, level: u32) -> usize
+    requires { ⌜ CanClimb h p level ⌝ }
+    ensures { λ r. ⌜ NodeOf h p level r ⌝ }
 {
-    leaf_of(h, p) >> ((s - 3) / 8 + 1)
+    leaf_of(h, p) >> (level + 1)
 }
 
-// The step number after the SC of step s. Its attempt started three steps before: a first one at 3, 11, 19 and so on, a second at 7, 15, 23.
-// The next attempt starts right after it; the first one at the node above, after both.
-pub fn after_store(h: u32, s: u32, ok: bool) -> u32
-    requires { ⌜ h ≤ 6 ⌝ }
-    requires { ⌜ 3 ≤ s ⌝ }
-    requires { ⌜ s ≤ 50 ⌝ }
-    ensures { λ r. ⌜ ((x : ℕ) → r ≡ afterStore h s x ok) ⌝ }
+// How many groups of children an attempt reads. A new shape answers here, in `group_at` and in `spot_of`.
+pub fn groups(f: Form) -> u32
+    requires { ⌜ f .shape ≤ highestShape ⌝ }
+    ensures { λ r. ⌜ GroupsOf f r ⌝ }
 {
-    let start = s - 3;
-    let again = start + 4;
-    let up = if start % 8 < 4 { again + 4 } else { again };
-    let to = if ok { up } else { again };
-    if 2 + 8 * h < to { 0 } else { to }
+    2
+}
+
+// The group that an attempt reads as its access i, from 0.
+pub fn group_at(f: Form, i: u32) -> Group
+    requires { ⌜ f .shape ≤ highestShape ⌝ }
+    requires { ⌜ i < 2 ⌝ }
+    ensures { λ r. ⌜ GroupOf f i r ⌝ }
+{
+    Group {
+        from: i as usize,
+        count: 1,
+    }
+}
+
+// The one decoder of step numbers: where in its climb an addition is at step s. Before the climb it is where the climb begins.
+pub fn spot_of(f: Form, s: u32) -> Spot
+    requires { ⌜ f .shape ≤ highestShape ⌝ }
+    ensures { λ r. ⌜ ((p : ℕ) (adds : Bool) → 1 ≤ f .height → s ≤ lastStep (formed f) p adds → SpotAt f p s r) ⌝ }
+{
+    if s < 3 {
+        return start();
+    }
+    let n = s - 3;
+    Spot {
+        level: n / 8,
+        position: n % 4,
+        second: n % 8 >= 4,
+    }
 }

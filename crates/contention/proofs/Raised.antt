@@ -9,7 +9,8 @@ use lib.Dec.{ltb}
 use borrow.Author.Tests.{eq-eqb, ne-eqb, ltb-true, ltb-false, lt-ltb}
 use Rattle.meaning.specs.Steps.{upd}
 use Rattle.arrays.specs.Arrays.{asFun}
-use Rattle.arrays.proofs.Laws.{fun-set, upd-other, upd-cases}
+use Rattle.arrays.proofs.Laws.{fun-set}
+use Rattle.meaning.proofs.Updates.{upd-other, upd-cases}
 use Rattle.contention.specs.Greatest.{raised}
 
 module _ (p c : ℕ) (greatest : ℕ → ℕ) (q : ℕ) where

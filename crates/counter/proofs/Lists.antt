@@ -2,23 +2,22 @@
 use Prim.Native.Nat.{ℕ, zero, suc, _+_, max, _≤_}
 use native.Mathlib.Omega.{arith}
 use mathlib.Core.Path.{_≡_, refl, sym, ap, ap₂, _∙_, subst⁻¹}
-use mathlib.Core.Logic.{_⊎_, ⊎-elim}
+use mathlib.Core.Logic.{⊎-elim}
 use mathlib.Core.Bool.{Bool, true, false, not, cond, _&&_}
 use mathlib.Core.List.{List, [], _∷_, _++_, List·Memᴰ, List·Memᴰ·head, List·Memᴰ·tail, List·Memᴰ·not-nil, Memᴰ·append-left, Memᴰ·append-right}
 use lib.Dec.{eqb, ltb}
 use borrow.Author.Tests.{eqb-true, eqb-false, eq-eqb, ne-eqb, ltb-true}
+use Rattle.meaning.specs.Shape.{Form}
 use Rattle.meaning.specs.Tree.{leafOf, ancestor}
-use Rattle.meaning.specs.Access.{Access, starts, readsRoot, readsLeaf, writesLeaf, links, readsLeft, readsRight, stores, isRootRead, isStoreAt}
+use Rattle.meaning.specs.Access.{Access, starts, readsRoot, readsLeaf, writesLeaf, links, reads, stores, isRootRead, isStoreAt}
 use Rattle.meaning.specs.Run.{Entry}
 use Rattle.meaning.specs.TakenIn.{beforeRead, keep, further, positionOf, placed, listed}
 use Rattle.meaning.specs.Plain.{upTo, timesIn}
-use Rattle.taken.specs.CountIn.{writesBy, countStore, countIn, Waiter, waiterOf, waiters}
+use Rattle.taken.specs.CountIn.{writesTo, countStore, countIn, Waiter, waiterOf, waiters, isCounted, operationsOf}
 use Rattle.taken.proofs.Agree.{Once, more, by-before, before-read}
-use Rattle.listing.specs.Queue.{isCounted, operationsOf}
-use Rattle.listing.proofs.Laws.{Distinct, nothing, another, listed-some}
-use Rattle.ledger.proofs.Good.{false-true}
-use Rattle.ledger.proofs.Kept.{absent, found, position-neither}
-use Rattle.ledger.proofs.Waiters.{rootCount, newly, placed-is, NewOrOld, old, new, new-or-old, count-cap}
+use Rattle.taken.proofs.Lists.{Distinct, nothing, another, listed-some, absent, found, position-neither}
+use Rattle.history.proofs.Turns.{false-true}
+use Rattle.history.proofs.Waiters.{rootCount, newly, placed-is, NewOrOld, old, new, new-or-old, count-cap}
 
 -- ---- positions
 
@@ -112,40 +111,40 @@ keep-mem f [] m e = absurd (List·Memᴰ·not-nil m)
 
 -- ---- what is in node 1 is listed
 
-module _ (h : ℕ) (low : 1 ≤ h) where
+module _ (F : Form) (low : 1 ≤ F .height) where
   -- a count above the leaves is a count of what had been written before the latest entry
-  lags : (l q : ℕ) (e : Entry) (es : List Entry) → countIn h (suc l) q (e ∷ es) ≤ writesBy q es
+  lags : (l q : ℕ) (e : Entry) (es : List Entry) → countIn (F .height) (suc l) q (e ∷ es) ≤ writesTo q es
   unfolding countIn countStore
-  lags l q e es = go (isStoreAt (ancestor (suc l) (leafOf h q)) (e .access) && e .stored)
+  lags l q e es = go (isStoreAt (ancestor (suc l) (leafOf (F .height) q)) (e .access) && e .stored)
     where
       old-count : ℕ
-      old-count = countStore (countIn h l q) (ancestor (suc l) (leafOf h q)) (ancestor l (leafOf h q)) es
+      old-count = countStore (countIn (F .height) l q) (ancestor (suc l) (leafOf (F .height) q)) (ancestor l (leafOf (F .height) q)) es
 
       before : List Entry
-      before = beforeRead (e .process) (ancestor l (leafOf h q)) es
+      before = beforeRead (e .process) (ancestor l (leafOf (F .height) q)) es
 
-      go : (t : Bool) → cond t (max old-count (countIn h l q before)) old-count ≤ writesBy q es
-      go true = omega (arith, count-cap h (suc l) q es, count-cap h l q before, by-before q (before-read (e .process) (ancestor l (leafOf h q)) es))
-      go false = omega (arith, count-cap h (suc l) q es)
+      go : (t : Bool) → cond t (max old-count (countIn (F .height) l q before)) old-count ≤ writesTo q es
+      go true = omega (arith, count-cap (F .height) (suc l) q es, count-cap (F .height) l q before, by-before q (before-read (e .process) (ancestor l (leafOf (F .height) q)) es))
+      go false = omega (arith, count-cap (F .height) (suc l) q es)
 
-  pub root-lags : (q : ℕ) (e : Entry) (es : List Entry) → rootCount h (e ∷ es) q ≤ writesBy q es
-  root-lags q e es = go h refl
+  pub root-lags : (q : ℕ) (e : Entry) (es : List Entry) → rootCount F (e ∷ es) q ≤ writesTo q es
+  root-lags q e es = go (F .height) refl
     where
-      go : (m : ℕ) → h ≡ m → rootCount h (e ∷ es) q ≤ writesBy q es
+      go : (m : ℕ) → F .height ≡ m → rootCount F (e ∷ es) q ≤ writesTo q es
       go zero d = absurd (omega arith)
-      go (suc m) d = subst⁻¹ (λ (l : ℕ). countIn h l q (e ∷ es) ≤ writesBy q es) d (lags m q e es)
+      go (suc m) d = subst⁻¹ (λ (l : ℕ). countIn (F .height) l q (e ∷ es) ≤ writesTo q es) d (lags m q e es)
 
   -- an access that is no SC changes no count there
-  pub root-still : (e : Entry) (es : List Entry) → ((x : ℕ) → isStoreAt x (e .access) ≡ false) → (q : ℕ) → rootCount h (e ∷ es) q ≡ rootCount h es q
+  pub root-still : (e : Entry) (es : List Entry) → ((x : ℕ) → isStoreAt x (e .access) ≡ false) → (q : ℕ) → rootCount F (e ∷ es) q ≡ rootCount F es q
   unfolding countIn countStore
-  root-still e es n q = go h refl
+  root-still e es n q = go (F .height) refl
     where
-      step : (m : ℕ) → countIn h (suc m) q (e ∷ es) ≡ countIn h (suc m) q es
-      step m = rw (n (ancestor (suc m) (leafOf h q)))
+      step : (m : ℕ) → countIn (F .height) (suc m) q (e ∷ es) ≡ countIn (F .height) (suc m) q es
+      step m = rw (n (ancestor (suc m) (leafOf (F .height) q)))
 
-      go : (m : ℕ) → h ≡ m → rootCount h (e ∷ es) q ≡ rootCount h es q
+      go : (m : ℕ) → F .height ≡ m → rootCount F (e ∷ es) q ≡ rootCount F es q
       go zero d = absurd (omega arith)
-      go (suc m) d = subst⁻¹ (λ (l : ℕ). countIn h l q (e ∷ es) ≡ countIn h l q es) d (step m)
+      go (suc m) d = subst⁻¹ (λ (l : ℕ). countIn (F .height) l q (e ∷ es) ≡ countIn (F .height) l q es) d (step m)
 
   pub read-no-store : (a : Access) → isRootRead a ≡ true → (x : ℕ) → isStoreAt x a ≡ false
   unfolding isRootRead isStoreAt
@@ -154,8 +153,7 @@ module _ (h : ℕ) (low : 1 ≤ h) where
   read-no-store (readsLeaf c) r x = refl
   read-no-store (writesLeaf c) r x = refl
   read-no-store (links a y) r x = refl
-  read-no-store (readsLeft y) r x = refl
-  read-no-store (readsRight y) r x = refl
+  read-no-store (reads y from count) r x = refl
   read-no-store (stores a y) r x = absurd (false-true r)
 
   operations-mem : (l : List Waiter) {w : Waiter} → List·Memᴰ w l → List·Memᴰ (w .operation) (operationsOf l)
@@ -164,7 +162,7 @@ module _ (h : ℕ) (low : 1 ≤ h) where
   operations-mem (x ∷ l) (List·Memᴰ·tail m) = List·Memᴰ·tail (operations-mem l m)
   operations-mem [] m = absurd (List·Memᴰ·not-nil m)
 
-  pub counted-listed : (es : List Entry) → Once es → (w : Waiter) → List·Memᴰ w (waiters es) → isCounted (rootCount h es) w ≡ true → List·Memᴰ (w .operation) (listed h es)
+  pub counted-listed : (es : List Entry) → Once es → (w : Waiter) → List·Memᴰ w (waiters es) → isCounted (rootCount F es) w ≡ true → List·Memᴰ (w .operation) (listed F es)
   unfolding listed waiters isCounted waiterOf
   counted-listed [] o w m c = absurd (List·Memᴰ·not-nil m)
   counted-listed (e ∷ es) (more f o) w m c = go (new-or-old e es w m) (counted-listed es o w)
@@ -172,19 +170,19 @@ module _ (h : ℕ) (low : 1 ≤ h) where
       -- a new write is not in node 1
       not-yet : w ≡ waiterOf e es → ⊥
       not-yet d =
-          let b = ltb-true (w .turn) (rootCount h (e ∷ es) (w .process)) c in
-          omega (arith, b, ap (λ (v : Waiter). v .turn) d, root-lags (w .process) e es, ap (λ (v : Waiter). writesBy (v .process) es) d)
+          let b = ltb-true (w .turn) (rootCount F (e ∷ es) (w .component)) c in
+          omega (arith, b, ap (λ (v : Waiter). v .turn) d, root-lags (w .component) e es, ap (λ (v : Waiter). writesTo (v .component) es) d)
 
-      go : NewOrOld e es w → (List·Memᴰ w (waiters es) → isCounted (rootCount h es) w ≡ true → List·Memᴰ (w .operation) (listed h es)) → List·Memᴰ (w .operation) (listed h es ++ placed h e es)
+      go : NewOrOld e es w → (List·Memᴰ w (waiters es) → isCounted (rootCount F es) w ≡ true → List·Memᴰ (w .operation) (listed F es)) → List·Memᴰ (w .operation) (listed F es ++ placed F e es)
       go (new k d) ih = absurd (not-yet d)
-      go (old n) ih = split (isCounted (rootCount h es) w) refl
+      go (old n) ih = split (isCounted (rootCount F es) w) refl
         where
-          split : (t : Bool) → isCounted (rootCount h es) w ≡ t → List·Memᴰ (w .operation) (listed h es ++ placed h e es)
+          split : (t : Bool) → isCounted (rootCount F es) w ≡ t → List·Memᴰ (w .operation) (listed F es ++ placed F e es)
           split true b = Memᴰ·append-left _ (ih n b)
-          split false b = Memᴰ·append-right (listed h es) (reads (isRootRead (e .access)) refl)
+          split false b = Memᴰ·append-right (listed F es) (taken (isRootRead (e .access)) refl)
             where
-              reads : (t : Bool) → isRootRead (e .access) ≡ t → List·Memᴰ (w .operation) (placed h e es)
-              reads true r = absurd (false-true (sym b ∙ ap (λ (n : ℕ). ltb (w .turn) n) (sym (root-still e es (read-no-store (e .access) r) (w .process))) ∙ c))
-              reads false r =
-                  subst⁻¹ (List·Memᴰ (w .operation)) (placed-is h e es (more f o) r)
-                  (operations-mem (keep (newly h e es (more f o)) (waiters es)) (keep-mem (newly h e es (more f o)) (waiters es) n (ap₂ (λ (x y : Bool). x && not y) c b)))
+              taken : (t : Bool) → isRootRead (e .access) ≡ t → List·Memᴰ (w .operation) (placed F e es)
+              taken true r = absurd (false-true (sym b ∙ ap (λ (n : ℕ). ltb (w .turn) n) (sym (root-still e es (read-no-store (e .access) r) (w .component))) ∙ c))
+              taken false r =
+                  subst⁻¹ (List·Memᴰ (w .operation)) (placed-is F e es (more f o) r)
+                  (operations-mem (keep (newly F e es (more f o)) (waiters es)) (keep-mem (newly F e es (more f o)) (waiters es) n (ap₂ (λ (x y : Bool). x && not y) c b)))

@@ -8,8 +8,8 @@ use mathlib.Core.Bool.{Bool, true, false, cond, _&&_}
 use lib.Dec.{ltb, eqb}
 use borrow.Author.Tests.{ltb-true, ltb-false, lt-ltb, eqb-true, eqb-false, eq-eqb}
 use Rattle.meaning.specs.Tree.{processes, leafOf, parent, ancestor}
-use Rattle.ledger.proofs.Under.{same-level, node-is}
-use Rattle.ledger.proofs.Good.{false-true}
+use Rattle.history.proofs.Levels.{same-level, node-is}
+use Rattle.history.proofs.Turns.{false-true}
 use Rattle.counter.specs.SumTree.{seek, levelOver, isOver}
 
 pub and-both : (a b : Bool) → (a && b) ≡ true → (a ≡ true) × (b ≡ true)

@@ -5,7 +5,7 @@ use mathlib.Core.Path.{_≡_, refl, sym, ap, ap₂}
 use mathlib.Core.Bool.{Bool, true, false}
 use lib.Dec.{eqb}
 use borrow.Author.Tests.{eqb-true, eqb-false}
-use Rattle.meaning.specs.Steps.{plus}
+use Rattle.meaning.specs.Shape.{plus}
 use Rattle.counter.specs.SumTree.{sumBelow}
 
 pub sum-same : (n : ℕ) (f g : ℕ → ℕ) → ((q : ℕ) → q < n → f q ≡ g q) → sumBelow n f ≡ sumBelow n g

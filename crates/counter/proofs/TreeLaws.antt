@@ -1,5 +1,5 @@
 -- The counter's tree obeys the laws of a tree, for every height.
-use Prim.Native.Nat.{ℕ, zero, suc, _+_, _-_, _%_, _^_, _≤_, _<_}
+use Prim.Native.Nat.{ℕ, zero, suc, _+_, _%_, _^_, _≤_, _<_}
 use native.Mathlib.Omega.{arith}
 use mathlib.Core.Path.{_≡_, refl, sym, ap, ap₂, _∙_}
 use mathlib.Core.Logic.{_⊎_, inl, inr}
@@ -7,10 +7,10 @@ use mathlib.Core.Bool.{Bool, true, false, cond}
 use lib.Dec.{ltb}
 use borrow.Author.Tests.{ltb-true, ltb-false, lt-ltb, le-ltb}
 use Rattle.meaning.specs.Tree.{processes, leafOf, left, right, parent, ancestor}
-use Rattle.meaning.specs.Steps.{plus}
+use Rattle.meaning.specs.Shape.{plus}
 use Rattle.tree.specs.Tree.{Laws}
-use Rattle.ledger.proofs.Under.{left-or-right, left-not-right}
-use Rattle.ledger.proofs.Good.{false-true}
+use Rattle.history.proofs.Levels.{left-or-right, left-not-right}
+use Rattle.history.proofs.Turns.{false-true}
 use Rattle.counter.specs.SumTree.{isOver, sumUnder, sumTree}
 use Rattle.counter.proofs.Overs.{Above, above, over-by, one-level, top, leaf-high, inner-high, ancestor-none, ancestor-more}
 use Rattle.counter.proofs.Sums.{sum-same, sum-split, sum-one, plus-left, plus-right}

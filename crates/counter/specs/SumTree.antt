@@ -5,7 +5,7 @@ use mathlib.Core.Path.{_≡_}
 use mathlib.Core.Bool.{Bool, true, cond, _&&_}
 use lib.Dec.{ltb, eqb}
 use Rattle.meaning.specs.Tree.{processes, leafOf, left, right, parent, ancestor, root}
-use Rattle.meaning.specs.Steps.{plus}
+use Rattle.meaning.specs.Shape.{plus}
 use Rattle.tree.specs.Tree.{Tree}
 
 -- the level, at most l, at which x stands above the place c; 0 where it does not

@@ -7,7 +7,8 @@ use lib.ListN.{length, getD, set, length-set}
 use lib.Seq.{getD-set-same, set-getD, set-set}
 use Rattle.meaning.specs.Steps.{upd}
 use Rattle.arrays.specs.Arrays.{asFun, asRows, between}
-use Rattle.arrays.proofs.Laws.{fun-set, rows-set, upd-is}
+use Rattle.arrays.proofs.Laws.{fun-set, rows-set}
+use Rattle.meaning.proofs.Updates.{upd-is}
 use Rattle.counts.proofs.Laws.{between-cases, between-in, between-out, between-is}
 
 -- nothing is stored where lo is past hi, so q is at most the greater of the two

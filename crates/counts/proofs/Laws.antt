@@ -1,5 +1,5 @@
 -- What callers want of `between` and of `countsAfter`: what each is in each of its cases; and that the contract of `take_in` allows one outcome.
-use Prim.Native.Nat.{ℕ, suc, _+_, _^_, _≤_, _<_}
+use Prim.Native.Nat.{ℕ, suc, _-_, _≤_, _<_}
 use mathlib.Core.Bool.{Bool, true, false, cond, _&&_}
 use mathlib.Core.List.{List, []}
 use mathlib.Core.Path.{_≡_, refl, sym, ap, _∙_, fun-ext}
@@ -8,9 +8,13 @@ use lib.ListN.{length, getD}
 use lib.Seq.{ext-getD}
 use lib.Dec.{leb, ltb, eqb}
 use borrow.Author.Tests.{ltb-true, ltb-false, leb-true, leb-false, le-leb, lt-leb, ne-eqb}
+use Rattle.meaning.specs.Shape.{Group, theOne, Form}
+use Rattle.spots.specs.Spot.{Spot}
+use Rattle.spots.specs.Got.{groupsAt}
 use Rattle.arrays.specs.Arrays.{asRows, between}
-use Rattle.arrays.proofs.Laws.{upd-other, same-list}
-use Rattle.counts.specs.Counts.{Counts, levels, countsOf, levelAt, positionAt, firstUnder, wrote, readOver, storedOver, attempted, countsAfter}
+use Rattle.meaning.proofs.Updates.{upd-other}
+use Rattle.arrays.proofs.Laws.{same-list}
+use Rattle.counts.specs.Counts.{Counts, levels, countsOf, wrote, readOver, storedOver, groupRead, nodeStored, attempted, countsAfter}
 
 module _ (lo hi : ℕ) (g f : ℕ → ℕ) where
   -- by whether q lies from lo up to hi, with `between` already computed
@@ -33,76 +37,50 @@ module _ (lo hi : ℕ) (g f : ℕ → ℕ) where
   pub between-is : (h : ℕ → ℕ) → ((q : ℕ) → lo ≤ q → q < hi → h q ≡ g q) → ((q : ℕ) → (lo ≤ q → q < hi → ⊥) → h q ≡ f q) → h ≡ between lo hi g f
   between-is h inside outside = fun-ext (λ q. between-cases (λ (x : ℕ). h q ≡ x) q (inside q) (outside q))
 
--- the accesses of an attempt whose children are at level l: the reads of the left and the right one, and the SC
-abbrev pub leftRead : ℕ → ℕ → Counts → Counts
-leftRead p l = readOver p l (firstUnder (suc l) p) (firstUnder (suc l) p + 2 ^ l)
-
-abbrev pub rightRead : ℕ → ℕ → Counts → Counts
-rightRead p l = readOver p l (firstUnder (suc l) p + 2 ^ l) (firstUnder (suc l) p + 2 ^ suc l)
-
-abbrev pub nodeStored : ℕ → ℕ → Counts → Counts
-nodeStored p l = storedOver p (suc l) (firstUnder (suc l) p) (firstUnder (suc l) p + 2 ^ suc l)
-
-module _ (p l i : ℕ) (stored : Bool) (c : Counts) where
-  pub attempted-left : i ≡ 1 → attempted p l i stored c ≡ leftRead p l c
+-- an access of an attempt, by its position
+module _ (gs : List Group) (p : ℕ) (σ : Spot) (stored : Bool) (c : Counts) where
+  pub attempted-link : σ .position ≡ 0 → attempted gs p σ stored c ≡ c
   unfolding attempted
-  attempted-left e = rw e
+  attempted-link e = rw e
 
-  pub attempted-right : i ≡ 2 → attempted p l i stored c ≡ rightRead p l c
+  -- the group i is read at position i + 1
+  pub attempted-read : (i : ℕ) → σ .position ≡ suc i → i < length gs → attempted gs p σ stored c ≡ groupRead (getD gs i (theOne 0)) p (σ .level) c
   unfolding attempted
-  attempted-right e = rw e
+  attempted-read i e h =
+      let before : σ .position - 1 ≡ i = omega (arith, e) in
+      rw (ne-eqb (σ .position) 0 (omega (arith, e)), le-leb (σ .position) (length gs) (omega (arith, e, h)), before)
 
-  pub attempted-stored : i ≡ 3 → stored ≡ true → attempted p l i stored c ≡ nodeStored p l c
+  pub attempted-stored : length gs < σ .position → stored ≡ true → attempted gs p σ stored c ≡ nodeStored p (σ .level) c
   unfolding attempted
-  attempted-stored e t = rw (e, t)
+  attempted-stored h t = rw (ne-eqb (σ .position) 0 (omega arith), lt-leb (σ .position) (length gs) h, t)
 
-  pub attempted-failed : i ≡ 3 → stored ≡ false → attempted p l i stored c ≡ c
+  pub attempted-failed : length gs < σ .position → stored ≡ false → attempted gs p σ stored c ≡ c
   unfolding attempted
-  attempted-failed e t = rw (e, t)
-
-  pub attempted-other : (i ≡ 1 → ⊥) → (i ≡ 2 → ⊥) → (i ≡ 3 → ⊥) → attempted p l i stored c ≡ c
-  unfolding attempted
-  attempted-other a b d = rw (ne-eqb i 1 a, ne-eqb i 2 b, ne-eqb i 3 d)
+  attempted-failed h t = rw (ne-eqb (σ .position) 0 (omega arith), lt-leb (σ .position) (length gs) h, t)
 
 -- a step of an addition, by its number
-module _ (p s : ℕ) (stored : Bool) (c : Counts) where
-  pub after-start : s < 2 → countsAfter p s stored c ≡ c
+module _ (F : Form) (p s : ℕ) (σ : Spot) (stored : Bool) (c : Counts) where
+  pub after-start : s < 2 → countsAfter F p s σ stored c ≡ c
   unfolding countsAfter
   after-start h = rw (ne-eqb s 2 (omega arith), lt-leb 3 s (omega arith))
 
-  pub after-write : s ≡ 2 → countsAfter p s stored c ≡ wrote p c
+  pub after-write : s ≡ 2 → countsAfter F p s σ stored c ≡ wrote p c
   unfolding countsAfter
   after-write e = rw e
 
-  pub after-attempt : 3 ≤ s → countsAfter p s stored c ≡ attempted p (levelAt s) (positionAt s) stored c
+  pub after-attempt : 3 ≤ s → countsAfter F p s σ stored c ≡ attempted (groupsAt F p σ) p σ stored c
   unfolding countsAfter
   after-attempt h = rw (ne-eqb s 2 (omega arith), le-leb 3 s h)
 
-  -- and by which of the four it is
-  module _ (h : 3 ≤ s) where
-    pub after-link : positionAt s ≡ 0 → countsAfter p s stored c ≡ c
-    after-link e = after-attempt h ∙ attempted-other _ _ _ _ _ (omega arith) (omega arith) (omega arith)
-
-    pub after-left : positionAt s ≡ 1 → countsAfter p s stored c ≡ leftRead p (levelAt s) c
-    after-left e = after-attempt h ∙ attempted-left _ _ _ _ _ e
-
-    pub after-right : positionAt s ≡ 2 → countsAfter p s stored c ≡ rightRead p (levelAt s) c
-    after-right e = after-attempt h ∙ attempted-right _ _ _ _ _ e
-
-    pub after-stored : positionAt s ≡ 3 → stored ≡ true → countsAfter p s stored c ≡ nodeStored p (levelAt s) c
-    after-stored e t = after-attempt h ∙ attempted-stored _ _ _ _ _ e t
-
-    pub after-failed : positionAt s ≡ 3 → stored ≡ false → countsAfter p s stored c ≡ c
-    after-failed e t = after-attempt h ∙ attempted-failed _ _ _ _ _ e t
-
   -- what the other processes have read stays
-  pub after-others-read : (r : ℕ) → (r ≡ p → ⊥) → countsAfter p s stored c .read r ≡ c .read r
+  pub after-others-read : (r : ℕ) → (r ≡ p → ⊥) → countsAfter F p s σ stored c .read r ≡ c .read r
   unfolding countsAfter attempted wrote readOver storedOver
   after-others-read r n =
+      let gs = groupsAt F p σ in
       either (eqb s 2) _ _ refl
       (either (leb 3 s) _ _
-      (either (eqb (positionAt s) 1) _ _ (upd-other _ p _ r n)
-      (either (eqb (positionAt s) 2) _ _ (upd-other _ p _ r n) (either (eqb (positionAt s) 3 && stored) _ _ refl refl)))
+      (either (eqb (σ .position) 0) _ _ refl
+      (either (leb (σ .position) (length gs)) _ _ (upd-other _ p _ r n) (either stored _ _ refl refl)))
       refl)
     where
       either : (t : Bool) (a b : Counts) → a .read r ≡ c .read r → b .read r ≡ c .read r → cond t a b .read r ≡ c .read r

@@ -6,7 +6,8 @@ use native.Mathlib.Omega.{arith}
 use lib.ListN.{length, getD, set}
 use Rattle.meaning.specs.Steps.{upd}
 use Rattle.arrays.specs.Arrays.{asFun, asRows, between}
-use Rattle.arrays.proofs.Laws.{fun-set, upd-same, upd-other, upd-is}
+use Rattle.arrays.proofs.Laws.{fun-set}
+use Rattle.meaning.proofs.Updates.{upd-same, upd-other, upd-is}
 use Rattle.counts.specs.Counts.{levels, countsOf, wrote, readOver, storedOver}
 
 module _ (written : List ℕ) (counts : List (List ℕ)) where

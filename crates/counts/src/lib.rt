@@ -1,11 +1,17 @@
-// How many of each leaf's additions are in the node at each level, and in what a process has read but not yet stored.
-ghost use Prim.Native.Nat.{ℕ, suc, _+_, _^_, _≤_, _<_, max};
+// How many of each component's additions are in the node at each level, and in what a process has read but not yet stored. Component q is
+// the leaf that process q writes.
+use climb::Spot;
+use recording::Form;
+ghost use Prim.Native.Nat.{ℕ, suc, _+_, _*_, _^_, _≤_, _<_, max};
 ghost use mathlib.Core.List.{List, []};
 ghost use mathlib.Core.Path.{_≡_};
 ghost use lib.ListN.{length, getD};
+ghost use Rattle.meaning.specs.Shape.{formed, highestShape};
 ghost use Rattle.meaning.specs.Steps.{upd};
+ghost use Rattle.spots.specs.Got.{groupsAt};
 ghost use Rattle.arrays.specs.Arrays.{asFun, asRows, between};
-ghost use Rattle.counts.specs.Counts.{levels, countsOf, firstUnder, readOver, storedOver, attempted, countsAfter, CanCount};
+ghost use Rattle.climb.specs.Climb.{spotIs};
+ghost use Rattle.counts.specs.Counts.{countsOf, firstUnder, readOver, storedOver, attempted, countsAfter, CanCount};
 
 fn larger(a: u16, b: u16) -> u16
     ensures { λ r. ⌜ r ≡ max a b ⌝ }
@@ -28,7 +34,7 @@ fn sixty_four_counts(a: [u16; 64]) -> bool
     true
 }
 
-// The counts of from in row p of read, for the processes lo to hi - 1.
+// The counts of from in row p of read, for the components lo to hi - 1.
 fn copy_row(read: &mut [[u16; 64]], p: usize, from: &[u16; 64], lo: usize, hi: usize)
     requires { ⌜ (p < 64) × (p < length (now read)) ⌝ }
     requires { ⌜ hi ≤ 64 ⌝ }
@@ -40,7 +46,7 @@ fn copy_row(read: &mut [[u16; 64]], p: usize, from: &[u16; 64], lo: usize, hi: u
     }
 }
 
-// The read of a child at level l by process p, for the processes lo to hi - 1.
+// The read of children at level l by process p, for the components lo to hi - 1.
 fn read_child(
     counts: &[[u16; 64]; 6],
     written: &[u16; 64],
@@ -62,7 +68,7 @@ fn read_child(
     }
 }
 
-// The successful SC of process p at a node at level l + 1, for the processes lo to hi - 1: the counts by value, in and out.
+// The successful SC of process p at a node at level l + 1, for the components lo to hi - 1: the counts by value, in and out.
 fn store(
     counts: [[u16; 64]; 6],
     read: &[[u16; 64]],
@@ -84,15 +90,16 @@ fn store(
     after
 }
 
-// How many leaves lie under a node at level l.
-fn leaves_under(l: usize) -> usize
-    requires { ⌜ l ≤ 6 ⌝ }
-    ensures { λ r. ⌜ r ≡ 2 ^ l ⌝ }
+// How many leaves lie under n nodes at level l.
+fn leaves_under(n: usize, l: usize) -> usize
+    requires { ⌜ n ≤ 2 ⌝ }
+    requires { ⌜ l < 6 ⌝ }
+    ensures { λ r. ⌜ r ≡ n * 2 ^ l ⌝ }
 {
-    1 << l
+    n << l
 }
 
-// The first process whose leaf lies under the node l levels above that of p.
+// The first component whose leaf lies under the node l levels above that of p.
 fn first_under(l: usize, p: usize) -> usize
     requires { ⌜ l ≤ 6 ⌝ }
     requires { ⌜ p < 64 ⌝ }
@@ -101,54 +108,52 @@ fn first_under(l: usize, p: usize) -> usize
     (p >> l) << l
 }
 
-// The counts after the access i of an attempt whose children are at level l.
+// The counts after the access at a spot of process p's climb: its LL takes nothing in, the groups' reads follow, the SC is the last.
 fn attempt(
     counts: &mut [[u16; 64]; 6],
     written: &[u16; 64],
     read: &mut [[u16; 64]],
+    f: Form,
     p: usize,
-    l: usize,
-    i: u32,
+    spot: Spot,
     stored: bool,
 )
     requires { ⌜ (p < 64) × (p < length (now read)) ⌝ }
-    requires { ⌜ l < 6 ⌝ }
-    ensures { λ r. ⌜ countsOf (now (counts .exit)) (now (written .entry)) (now (read .exit)) ≡ attempted p l i stored (countsOf (now (counts .entry)) (now (written .entry)) (now (read .entry))) ⌝ }
+    requires { ⌜ (f .shape ≤ highestShape) × (spot .level < 6) ⌝ }
+    ensures { λ r. ⌜ countsOf (now (counts .exit)) (now (written .entry)) (now (read .exit)) ≡ attempted (groupsAt (formed f) p (spotIs spot)) p (spotIs spot) stored (countsOf (now (counts .entry)) (now (written .entry)) (now (read .entry))) ⌝ }
 {
-    match i {
-        1 => {
-            let lo = first_under(l + 1, p);
-            let mid = lo + leaves_under(l);
-            read_child(counts, written, read, p, l, lo, mid);
-        }
-        2 => {
-            let lo = first_under(l + 1, p);
-            let mid = lo + leaves_under(l);
-            let hi = lo + leaves_under(l + 1);
-            read_child(counts, written, read, p, l, mid, hi);
-        }
-        3 => {
-            if stored {
-                let lo = first_under(l + 1, p);
-                let hi = lo + leaves_under(l + 1);
-                *counts = store(*counts, read, p, l, lo, hi);
-            }
-        }
-        _ => {}
+    let i = spot.position;
+    if i == 0 {
+        return;
+    }
+    let l = spot.level as usize;
+    let lo = first_under(l + 1, p);
+    if i <= climb::groups(f) {
+        let g = climb::group_at(f, i - 1);
+        let from = lo + leaves_under(g.from, l);
+        let to = lo + leaves_under(g.from + g.count, l);
+        read_child(counts, written, read, p, l, from, to);
+        return;
+    }
+    if stored {
+        let hi = lo + leaves_under(2, l);
+        *counts = store(*counts, read, p, l, lo, hi);
     }
 }
 
-// The counts after the step s of an addition of process p.
+// The counts after the step s of an addition of process p, at that spot of its climb.
 pub fn take_in(
     counts: &mut [[u16; 64]; 6],
     written: &mut [u16; 64],
     read: &mut [[u16; 64]],
+    f: Form,
     p: usize,
     s: u32,
+    spot: Spot,
     stored: bool,
 )
-    requires { ⌜ CanCount p s (now written) (now read) ⌝ }
-    ensures { λ r. ⌜ countsOf (now (counts .exit)) (now (written .exit)) (now (read .exit)) ≡ countsAfter p s stored (countsOf (now (counts .entry)) (now (written .entry)) (now (read .entry))) ⌝ }
+    requires { ⌜ CanCount f p spot (now written) (now read) ⌝ }
+    ensures { λ r. ⌜ countsOf (now (counts .exit)) (now (written .exit)) (now (read .exit)) ≡ countsAfter (formed f) p s (spotIs spot) stored (countsOf (now (counts .entry)) (now (written .entry)) (now (read .entry))) ⌝ }
 {
     if s == 2 {
         sixty_four_counts(*written);
@@ -158,6 +163,5 @@ pub fn take_in(
     if s < 3 {
         return;
     }
-    let l = ((s - 3) / 8) as usize;
-    attempt(counts, written, read, p, l, (s - 3) % 4, stored);
+    attempt(counts, written, read, f, p, spot, stored);
 }

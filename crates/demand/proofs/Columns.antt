@@ -6,11 +6,12 @@ use mathlib.Core.Bool.{Bool, true, false, not, cond, _&&_, _||_}
 use mathlib.Core.List.{List, [], _∷_, _++_, map, map-append}
 use lib.Dec.{ltb, eqb}
 use borrow.Author.Tests.{eqb-true, eqb-false, eq-eqb, ne-eqb, ltb-true, ltb-false, lt-ltb, leb-true, le-leb, not-true}
+use Rattle.meaning.specs.Shape.{Form}
 use Rattle.meaning.specs.Tree.{processes}
 use Rattle.meaning.specs.Run.{State}
 use Rattle.meaning.specs.TakenIn.{positionOf, listed, rank}
 use Rattle.meaning.specs.Plain.{timesIn}
-use Rattle.ledger.proofs.Good.{false-true}
+use Rattle.history.proofs.Turns.{false-true}
 use Rattle.counter.proofs.Overs.{and-both}
 use Rattle.demand.specs.InOrder.{isListed, placeOf, writeOf, ListOf}
 use Rattle.demand.specs.Demand3.{Demand3}
@@ -42,56 +43,56 @@ map-same p f g same (suc k) =
 
 -- ---- the clauses
 
-module _ (h : ℕ) (st : State) (d : Demand3 h st) where
+module _ (F : Form) (st : State) (d : Demand3 F st) where
   abbrev its : List ℕ
-  its = listed h (st .history)
+  its = listed F (st .history)
 
-  of-kind : (k i : ℕ) → isListedOf k h st i ≡ true → (isListed h st i ≡ true) × (st .row i .kind ≡ k)
+  of-kind : (k i : ℕ) → isListedOf k F st i ≡ true → (isListed F st i ≡ true) × (st .row i .kind ≡ k)
   unfolding isListedOf
-  of-kind k i e = let v = and-both (isListed h st i) _ e in (v .0, eqb-true (st .row i .kind) k (v .1))
+  of-kind k i e = let v = and-both (isListed F st i) _ e in (v .0, eqb-true (st .row i .kind) k (v .1))
 
   done : (k i : ℕ) → isDone k (st .row i) ≡ true → (st .row i .kind ≡ k) × (st .row i .finished ≡ true)
   unfolding isDone
   done k i e = let v = and-both (eqb (st .row i .kind) k) _ e in (eqb-true (st .row i .kind) k (v .0), v .1)
 
-  earlier-is : (n : List ℕ) → ListOf h st n → (i j : ℕ) → isEarlier h st i j ≡ true → positionOf i n < positionOf j n
+  earlier-is : (n : List ℕ) → ListOf F st n → (i j : ℕ) → isEarlier F st i j ≡ true → positionOf i n < positionOf j n
   unfolding isEarlier
   earlier-is n c i j e =
-      let v = and-both (isListed h st i && isListed h st j) _ e in
-      let w = and-both (isListed h st i) (isListed h st j) (v .0) in
-      c .earlier i j (w .0) (w .1) (ltb-true (placeOf h st i) (placeOf h st j) (v .1))
+      let v = and-both (isListed F st i && isListed F st j) _ e in
+      let w = and-both (isListed F st i) (isListed F st j) (v .0) in
+      c .earlier i j (w .0) (w .1) (ltb-true (placeOf F st i) (placeOf F st j) (v .1))
 
-  tie-is : (n : List ℕ) → ListOf h st n → (i j : ℕ) → isTie h st i j ≡ true → positionOf i n < positionOf j n
+  tie-is : (n : List ℕ) → ListOf F st n → (i j : ℕ) → isTie F st i j ≡ true → positionOf i n < positionOf j n
   unfolding isTie placeOf writeOf
   tie-is n c i j e =
-      let v = and-both (isListedOf 3 h st i && isListedOf 3 h st j && eqb (placeOf h st i) (placeOf h st j)) _ e in
-      let w = and-both (isListedOf 3 h st i && isListedOf 3 h st j) _ (v .0) in
-      let u = and-both (isListedOf 3 h st i) (isListedOf 3 h st j) (w .0) in
+      let v = and-both (isListedOf 3 F st i && isListedOf 3 F st j && eqb (placeOf F st i) (placeOf F st j)) _ e in
+      let w = and-both (isListedOf 3 F st i && isListedOf 3 F st j) _ (v .0) in
+      let u = and-both (isListedOf 3 F st i) (isListedOf 3 F st j) (w .0) in
       let a = of-kind 3 i (u .0) in
       let b = of-kind 3 j (u .1) in
-      c .ties i j (a .0) (b .0) (a .1) (b .1) (eqb-true (placeOf h st i) (placeOf h st j) (w .1)) (ltb-true (writeOf st i) (writeOf st j) (v .1))
+      c .ties i j (a .0) (b .0) (a .1) (b .1) (eqb-true (placeOf F st i) (placeOf F st j) (w .1)) (ltb-true (writeOf st i) (writeOf st j) (v .1))
 
-  pub listing-same : (n : List ℕ) → ListOf h st n → listingSeen h st ≡ listingGiven h st n
+  pub listing-same : (n : List ℕ) → ListOf F st n → listingSeen F st ≡ listingGiven F st n
   unfolding listingSeen listingGiven isBefore
   listing-same n c =
       λ t. record {
         list = sym (d .only n c) t;
         who = map-same anyone _ _ (λ i e. d .list .who i) (st .operations) t;
-        reads = ap (map (placeOf h st)) (those-meet (isListedOf 2 h st) _ (λ i e. let v = of-kind 2 i e in d .places .reads i (v .0) (v .1)) (st .operations)) t;
-        additions = ap (map (placeOf h st)) (those-meet (isListedOf 3 h st) _ (λ i e. let v = of-kind 3 i e in d .places .additions i (v .0) (v .1)) (st .operations)) t;
-        writes = ap (map (writeOf st)) (those-meet (isListedOf 3 h st) _ (λ i e. let v = of-kind 3 i e in d .places .writes i (v .0) (v .1)) (st .operations)) t;
-        earlier = pairs-meet (isEarlier h st) _ (λ i j e. lt-ltb (positionOf i its) (positionOf j its) (earlier-is its (d .list) i j e)) (st .operations) (st .operations) t;
-        ties = pairs-meet (isTie h st) _ (λ i j e. lt-ltb (positionOf i its) (positionOf j its) (tie-is its (d .list) i j e)) (st .operations) (st .operations) t;
+        reads = ap (map (placeOf F st)) (those-meet (isListedOf 2 F st) _ (λ i e. let v = of-kind 2 i e in d .places .reads i (v .0) (v .1)) (st .operations)) t;
+        additions = ap (map (placeOf F st)) (those-meet (isListedOf 3 F st) _ (λ i e. let v = of-kind 3 i e in d .places .additions i (v .0) (v .1)) (st .operations)) t;
+        writes = ap (map (writeOf st)) (those-meet (isListedOf 3 F st) _ (λ i e. let v = of-kind 3 i e in d .places .writes i (v .0) (v .1)) (st .operations)) t;
+        earlier = pairs-meet (isEarlier F st) _ (λ i j e. lt-ltb (positionOf i its) (positionOf j its) (earlier-is its (d .list) i j e)) (st .operations) (st .operations) t;
+        ties = pairs-meet (isTie F st) _ (λ i j e. lt-ltb (positionOf i its) (positionOf j its) (tie-is its (d .list) i j e)) (st .operations) (st .operations) t;
       }
 
-  over-is : (i j : ℕ) → isOver h st i j ≡ true → rank h (st .history) i < rank h (st .history) j
+  over-is : (i j : ℕ) → isOver F st i j ≡ true → rank F (st .history) i < rank F (st .history) j
   unfolding isOver
   over-is i j e =
       let v = and-both (st .row i .finished && ltb (st .row i .ended) (st .row j .started)) _ e in
       let w = and-both (st .row i .finished) _ (v .0) in
-      d .order i j (w .0) (omega (arith, ltb-true (st .row i .ended) (st .row j .started) (w .1))) (leb-true 1 (rank h (st .history) j) (v .1))
+      d .order i j (w .0) (omega (arith, ltb-true (st .row i .ended) (st .row j .started) (w .1))) (leb-true 1 (rank F (st .history) j) (v .1))
 
-  pub standing-same : standingSeen h st ≡ standingGiven h st
+  pub standing-same : standingSeen F st ≡ standingGiven F st
   unfolding standingSeen standingGiven
   standing-same =
       λ t. record {
@@ -99,7 +100,7 @@ module _ (h : ℕ) (st : State) (d : Demand3 h st) where
         unfinished = those-meet (λ i. not (st .row i .finished)) _ (λ i e. le-leb (timesIn i its) 1 (d .unfinished i (not-true (st .row i .finished) e))) (st .operations) t;
         reads = those-meet (λ i. eqb (st .row i .kind) 2 && not (st .row i .finished)) _ never (st .operations) t;
         strangers = d .strangers (st .operations) (omega arith) t;
-        order = pairs-meet (isOver h st) _ (λ i j e. lt-ltb (rank h (st .history) i) (rank h (st .history) j) (over-is i j e)) (st .operations) (st .operations) t;
+        order = pairs-meet (isOver F st) _ (λ i j e. lt-ltb (rank F (st .history) i) (rank F (st .history) j) (over-is i j e)) (st .operations) (st .operations) t;
       }
     where
       never : (i : ℕ) → (eqb (st .row i .kind) 2 && not (st .row i .finished)) ≡ true → eqb (timesIn i its) 0 ≡ true
@@ -107,19 +108,19 @@ module _ (h : ℕ) (st : State) (d : Demand3 h st) where
           let v = and-both (eqb (st .row i .kind) 2) _ e in
           eq-eqb (timesIn i its) 0 (d .reads i (eqb-true (st .row i .kind) 2 (v .0)) (not-true (st .row i .finished) (v .1)))
 
-  pub numbers-same : numbersSeen h st ≡ numbersGiven h st
+  pub numbers-same : numbersSeen F st ≡ numbersGiven F st
   unfolding numbersSeen numbersGiven
   numbers-same = λ t. record { answers = map-same (λ i. isDone 2 (st .row i)) _ _ (λ i e. let v = done 2 i e in d .answers i (v .0) (v .1)) (st .operations) t; counter = sym (d .counter) t }
 
-  pub counts-same : countsSeen h st ≡ countsGiven h st
+  pub counts-same : countsSeen F st ≡ countsGiven F st
   unfolding countsSeen countsGiven
   counts-same =
       λ t. record {
         reads = map-same (λ i. isDone 2 (st .row i)) _ _ (λ i e. let v = done 2 i e in d .read-steps i (v .1) (v .0)) (st .operations) t;
         additions = map-same (λ i. isDone 3 (st .row i)) _ _ (λ i e. let v = done 3 i e in d .addition-steps i (v .1) (v .0) .0) (st .operations) t;
-        seconds = those-meet (λ i. isDone 3 (st .row i)) _ (λ i e. let v = done 3 i e in le-leb (st .row i .seconds) h (d .addition-steps i (v .1) (v .0) .1)) (st .operations) t;
-        bound = those-meet (λ i. not (st .row i .finished)) _ (λ i e. lt-ltb (st .row i .steps) (2 + 8 * h) (d .bound i (not-true (st .row i .finished) e))) (st .operations) t;
-        idles = map-same anyone _ _ (λ p e. d .idles p) (processes h) t;
+        seconds = those-meet (λ i. isDone 3 (st .row i)) _ (λ i e. let v = done 3 i e in le-leb (st .row i .seconds) (F .height) (d .addition-steps i (v .1) (v .0) .1)) (st .operations) t;
+        bound = those-meet (λ i. not (st .row i .finished)) _ (λ i e. lt-ltb (st .row i .steps) (2 + 8 * F .height) (d .bound i (not-true (st .row i .finished) e))) (st .operations) t;
+        idles = map-same anyone _ _ (λ p e. d .idles p) (processes (F .height)) t;
       }
 
   -- ---- a list that passes
@@ -143,14 +144,14 @@ module _ (h : ℕ) (st : State) (d : Demand3 h st) where
       rw (ne-eqb i x (λ z. omega (arith, ltb-true x (st .operations) (v .0), z))) (omega (arith, below-none n (v .1) i b))
 
   -- nobody is listed who has not started
-  nobody-else : (i : ℕ) → st .operations ≤ i → isListed h st i ≡ false
-  nobody-else i b = go (isListed h st i) refl
+  nobody-else : (i : ℕ) → st .operations ≤ i → isListed F st i ≡ false
+  nobody-else i b = go (isListed F st i) refl
     where
-      go : (t : Bool) → isListed h st i ≡ t → t ≡ false
+      go : (t : Bool) → isListed F st i ≡ t → t ≡ false
       go true e = absurd (omega (arith, d .strangers i b, d .list .who i, ap {B = ℕ} (λ t. cond t 1 0) e))
       go false e = refl
 
-  started : (i : ℕ) → isListed h st i ≡ true → i < st .operations
+  started : (i : ℕ) → isListed F st i ≡ true → i < st .operations
   started i e = go (ltb i (st .operations)) refl
     where
       go : (t : Bool) → ltb i (st .operations) ≡ t → i < st .operations
@@ -158,21 +159,21 @@ module _ (h : ℕ) (st : State) (d : Demand3 h st) where
       go false z = absurd (false-true (sym (nobody-else i (ltb-false i (st .operations) z)) ∙ e))
 
   -- either premise is met
-  earlier-true : (i j : ℕ) → isListed h st i ≡ true → isListed h st j ≡ true → placeOf h st i < placeOf h st j → (isEarlier h st i j || isTie h st i j) ≡ true
+  earlier-true : (i j : ℕ) → isListed F st i ≡ true → isListed F st j ≡ true → placeOf F st i < placeOf F st j → (isEarlier F st i j || isTie F st i j) ≡ true
   unfolding isEarlier
-  earlier-true i j a b lt = rw (a, b, lt-ltb (placeOf h st i) (placeOf h st j) lt)
+  earlier-true i j a b lt = rw (a, b, lt-ltb (placeOf F st i) (placeOf F st j) lt)
 
-  tie-true : (i j : ℕ) → isListed h st i ≡ true → isListed h st j ≡ true → st .row i .kind ≡ 3 → st .row j .kind ≡ 3 → placeOf h st i ≡ placeOf h st j → writeOf st i < writeOf st j
-      → (isEarlier h st i j || isTie h st i j) ≡ true
+  tie-true : (i j : ℕ) → isListed F st i ≡ true → isListed F st j ≡ true → st .row i .kind ≡ 3 → st .row j .kind ≡ 3 → placeOf F st i ≡ placeOf F st j → writeOf st i < writeOf st j
+      → (isEarlier F st i j || isTie F st i j) ≡ true
   unfolding isTie isListedOf
   tie-true i j a b x y z lt =
-      rw (a, b, eq-eqb (st .row i .kind) 3 x, eq-eqb (st .row j .kind) 3 y, eq-eqb (placeOf h st i) (placeOf h st j) z, lt-ltb (writeOf st i) (writeOf st j) lt) (or-true (isEarlier h st i j))
+      rw (a, b, eq-eqb (st .row i .kind) 3 x, eq-eqb (st .row j .kind) 3 y, eq-eqb (placeOf F st i) (placeOf F st j) z, lt-ltb (writeOf st i) (writeOf st j) lt) (or-true (isEarlier F st i j))
     where
       or-true : (t : Bool) → (t || true) ≡ true
       or-true true = refl
       or-true false = refl
 
-  pub meets-is : (n : List ℕ) → meets h st n ≡ true → ListOf h st n
+  pub meets-is : (n : List ℕ) → meets F st n ≡ true → ListOf F st n
   unfolding meets isBefore placeOf writeOf
   meets-is n e =
       record {
@@ -181,20 +182,20 @@ module _ (h : ℕ) (st : State) (d : Demand3 h st) where
         ties = λ i j a b x y z lt. first i j a b (tie-true i j a b x y z lt);
       }
     where
-      pairs-pass : ((allBelow (st .operations) n && every (λ i. eqb (timesIn i n) (cond (isListed h st i) 1 0)) (st .operations)) ≡ true)
-          × (every (λ i. every (λ j. not (isEarlier h st i j || isTie h st i j) || isBefore n i j) (st .operations)) (st .operations) ≡ true)
-      pairs-pass = and-both (allBelow (st .operations) n && every (λ i. eqb (timesIn i n) (cond (isListed h st i) 1 0)) (st .operations)) _ e
+      pairs-pass : ((allBelow (st .operations) n && every (λ i. eqb (timesIn i n) (cond (isListed F st i) 1 0)) (st .operations)) ≡ true)
+          × (every (λ i. every (λ j. not (isEarlier F st i j || isTie F st i j) || isBefore n i j) (st .operations)) (st .operations) ≡ true)
+      pairs-pass = and-both (allBelow (st .operations) n && every (λ i. eqb (timesIn i n) (cond (isListed F st i) 1 0)) (st .operations)) _ e
 
-      all-pass : (allBelow (st .operations) n ≡ true) × (every (λ i. eqb (timesIn i n) (cond (isListed h st i) 1 0)) (st .operations) ≡ true)
+      all-pass : (allBelow (st .operations) n ≡ true) × (every (λ i. eqb (timesIn i n) (cond (isListed F st i) 1 0)) (st .operations) ≡ true)
       all-pass = and-both (allBelow (st .operations) n) _ (pairs-pass .0)
 
-      who : (i : ℕ) (t : Bool) → ltb i (st .operations) ≡ t → timesIn i n ≡ cond (isListed h st i) 1 0
-      who i true z = eqb-true (timesIn i n) (cond (isListed h st i) 1 0) (every-is _ (st .operations) (all-pass .1) i (ltb-true i (st .operations) z))
+      who : (i : ℕ) (t : Bool) → ltb i (st .operations) ≡ t → timesIn i n ≡ cond (isListed F st i) 1 0
+      who i true z = eqb-true (timesIn i n) (cond (isListed F st i) 1 0) (every-is _ (st .operations) (all-pass .1) i (ltb-true i (st .operations) z))
       who i false z =
           let b = ltb-false i (st .operations) z in
           below-none n (all-pass .0) i b ∙ sym (ap {B = ℕ} (λ t. cond t 1 0) (nobody-else i b))
 
-      first : (i j : ℕ) → isListed h st i ≡ true → isListed h st j ≡ true → (isEarlier h st i j || isTie h st i j) ≡ true → positionOf i n < positionOf j n
+      first : (i j : ℕ) → isListed F st i ≡ true → isListed F st j ≡ true → (isEarlier F st i j || isTie F st i j) ≡ true → positionOf i n < positionOf j n
       first i j a b c =
           let pass = every-is _ (st .operations) (every-is _ (st .operations) (pairs-pass .1) i (started i a)) j (started j b) in
           ltb-true (positionOf i n) (positionOf j n) (sym (ap (λ (t : Bool). not t || ltb (positionOf i n) (positionOf j n)) c) ∙ pass)

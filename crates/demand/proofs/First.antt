@@ -10,8 +10,8 @@ use borrow.Author.Tests.{eq-eqb, ne-eqb}
 use Rattle.meaning.specs.Run.{Entry}
 use Rattle.meaning.specs.TakenIn.{positionOf}
 use Rattle.taken.proofs.Agree.{Before, same, later}
-use Rattle.ledger.proofs.Good.{false-true}
-use Rattle.ledger.proofs.Kept.{position-le, position-first, position-second}
+use Rattle.history.proofs.Turns.{false-true}
+use Rattle.taken.proofs.Lists.{position-le, position-first, position-second}
 use Rattle.counter.proofs.Lists.{some-position}
 use Rattle.demand.specs.InOrder.{firstAfter, isAt}
 

@@ -6,10 +6,3 @@ pub mod OneList
 pub mod Holds
 pub mod Columns
 pub mod Applied
-pub mod ByRank
-pub mod Starts
-pub mod Owners
-pub mod Bytes
-pub mod Records
-pub mod ReadBack
-pub mod AppliedBytes

@@ -9,8 +9,7 @@ use lib.Dec.{eqb}
 use borrow.Author.Tests.{eqb-true, eqb-false, eq-eqb}
 use Rattle.meaning.specs.TakenIn.{positionOf}
 use Rattle.meaning.specs.Plain.{timesIn}
-use Rattle.listing.proofs.Laws.{listed-some}
-use Rattle.ledger.proofs.Kept.{found, position-second}
+use Rattle.taken.proofs.Lists.{listed-some, found, position-second}
 use Rattle.counter.proofs.Lists.{some-position, times-not}
 
 times-head : (x : ℕ) (l : List ℕ) → timesIn x (x ∷ l) ≡ 1 + timesIn x l

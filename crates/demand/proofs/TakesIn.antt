@@ -11,8 +11,8 @@ use Rattle.meaning.specs.Access.{isRootRead, isStoreAt}
 use Rattle.meaning.specs.Run.{Entry}
 use Rattle.meaning.specs.TakenIn.{inLeaf, beforeRead, inStore, isInNode}
 use Rattle.taken.proofs.Agree.{Before, before-read, in-before}
-use Rattle.ledger.proofs.Did.{did}
-use Rattle.ledger.proofs.Good.{false-true}
+use Rattle.history.proofs.Did.{did}
+use Rattle.history.proofs.Turns.{false-true}
 use Rattle.counter.proofs.Overs.{and-both}
 use Rattle.demand.specs.InOrder.{isReadBy, hasRead}
 

@@ -6,7 +6,8 @@ use mathlib.Core.Bool.{Bool, true, false, not, cond, _&&_, _||_}
 use mathlib.Core.List.{List, [], _∷_, _++_, map}
 use lib.ListN.{drop}
 use lib.Dec.{leb, ltb, eqb}
-use Rattle.meaning.specs.Layout.{height}
+use Rattle.meaning.specs.Shape.{Form}
+use Rattle.meaning.specs.Layout.{formOf}
 use Rattle.meaning.specs.Tree.{processes, root}
 use Rattle.meaning.specs.Run.{Row, State, initial, Outcome, refused, accepted, outcome}
 use Rattle.meaning.specs.Alone.{alone}
@@ -28,9 +29,9 @@ besides =
     ∷ recording 39 (adds 1 5 ∷ times 2 (step 1) ∷ adds 0 7 ∷ times 6 (step 0) ∷ [])
     ∷ []
 
-unfoldable pub stateOf : Outcome → State
-stateOf (refused a) = initial
-stateOf (accepted st) = st
+unfoldable pub stateOf : Form → Outcome → State
+stateOf F (refused a) = initial F
+stateOf F (accepted st) = st
 
 unfoldable pub isAccepted : Outcome → Bool
 isAccepted (refused a) = false
@@ -59,23 +60,23 @@ anyone i = true
 unfoldable pub isDone : ℕ → Row → Bool
 isDone k w = eqb (w .kind) k && w .finished
 
-unfoldable pub isListedOf : ℕ → ℕ → State → ℕ → Bool
-isListedOf k h st i = isListed h st i && eqb (st .row i .kind) k
+unfoldable pub isListedOf : ℕ → Form → State → ℕ → Bool
+isListedOf k F st i = isListed F st i && eqb (st .row i .kind) k
 
 -- whether i is placed at the earlier record; whether both are additions placed at the same, i with the earlier leaf write
-unfoldable pub isEarlier : ℕ → State → ℕ → ℕ → Bool
-isEarlier h st i j = isListed h st i && isListed h st j && ltb (placeOf h st i) (placeOf h st j)
+unfoldable pub isEarlier : Form → State → ℕ → ℕ → Bool
+isEarlier F st i j = isListed F st i && isListed F st j && ltb (placeOf F st i) (placeOf F st j)
 
-unfoldable pub isTie : ℕ → State → ℕ → ℕ → Bool
-isTie h st i j =
-    isListedOf 3 h st i && isListedOf 3 h st j && eqb (placeOf h st i) (placeOf h st j) && ltb (writeOf st i) (writeOf st j)
+unfoldable pub isTie : Form → State → ℕ → ℕ → Bool
+isTie F st i j =
+    isListedOf 3 F st i && isListedOf 3 F st j && eqb (placeOf F st i) (placeOf F st j) && ltb (writeOf st i) (writeOf st j)
 
 unfoldable pub isBefore : List ℕ → ℕ → ℕ → Bool
 isBefore l i j = ltb (positionOf i l) (positionOf j l)
 
 -- whether i has finished before j started, and j is listed
-unfoldable pub isOver : ℕ → State → ℕ → ℕ → Bool
-isOver h st i j = st .row i .finished && ltb (st .row i .ended) (st .row j .started) && leb 1 (rank h (st .history) j)
+unfoldable pub isOver : Form → State → ℕ → ℕ → Bool
+isOver F st i j = st .row i .finished && ltb (st .row i .ended) (st .row j .started) && leb 1 (rank F (st .history) j)
 
 -- ---- whether l meets the clauses of `ListOf`, tried on the operations that have started
 
@@ -87,10 +88,10 @@ unfoldable pub allBelow : ℕ → List ℕ → Bool
 allBelow m [] = true
 allBelow m (i ∷ l) = ltb i m && allBelow m l
 
-unfoldable pub meets : ℕ → State → List ℕ → Bool
-meets h st l =
-    allBelow (st .operations) l && every (λ i. eqb (timesIn i l) (cond (isListed h st i) 1 0)) (st .operations)
-    && every (λ i. every (λ j. not (isEarlier h st i j || isTie h st i j) || isBefore l i j) (st .operations)) (st .operations)
+unfoldable pub meets : Form → State → List ℕ → Bool
+meets F st l =
+    allBelow (st .operations) l && every (λ i. eqb (timesIn i l) (cond (isListed F st i) 1 0)) (st .operations)
+    && every (λ i. every (λ j. not (isEarlier F st i j || isTie F st i j) || isBefore l i j) (st .operations)) (st .operations)
 
 -- ---- the two sides, by clauses: the list and the records of its order
 
@@ -103,30 +104,30 @@ pub record Listing : Type 0 where
   pub earlier : List (ℕ × ℕ)
   pub ties : List (ℕ × ℕ)
 
-unfoldable pub listingSeen : ℕ → State → Listing
-listingSeen h st =
-    let l : List ℕ = listed h (st .history) in
+unfoldable pub listingSeen : Form → State → Listing
+listingSeen F st =
+    let l : List ℕ = listed F (st .history) in
     record {
       list = l;
       who = map (λ i. timesIn i l) (those anyone (st .operations));
-      reads = map (placeOf h st) (those (λ i. isListedOf 2 h st i && isAt (isReadBy i) (placeOf h st i) (st .history)) (st .operations));
-      additions = map (placeOf h st) (those (λ i. isListedOf 3 h st i && isAt isRootStore (placeOf h st i) (st .history)) (st .operations));
-      writes = map (writeOf st) (those (λ i. isListedOf 3 h st i && isAt (isWriteBy i) (writeOf st i) (st .history)) (st .operations));
-      earlier = pairs (λ i j. isEarlier h st i j && isBefore l i j) (st .operations) (st .operations);
-      ties = pairs (λ i j. isTie h st i j && isBefore l i j) (st .operations) (st .operations);
+      reads = map (placeOf F st) (those (λ i. isListedOf 2 F st i && isAt (isReadBy i) (placeOf F st i) (st .history)) (st .operations));
+      additions = map (placeOf F st) (those (λ i. isListedOf 3 F st i && isAt isRootStore (placeOf F st i) (st .history)) (st .operations));
+      writes = map (writeOf st) (those (λ i. isListedOf 3 F st i && isAt (isWriteBy i) (writeOf st i) (st .history)) (st .operations));
+      earlier = pairs (λ i j. isEarlier F st i j && isBefore l i j) (st .operations) (st .operations);
+      ties = pairs (λ i j. isTie F st i j && isBefore l i j) (st .operations) (st .operations);
     }
 
 -- by a list l that meets the clauses
-unfoldable pub listingGiven : ℕ → State → List ℕ → Listing
-listingGiven h st l =
+unfoldable pub listingGiven : Form → State → List ℕ → Listing
+listingGiven F st l =
     record {
       list = l;
-      who = map (λ i. cond (isListed h st i) 1 0) (those anyone (st .operations));
-      reads = map (placeOf h st) (those (isListedOf 2 h st) (st .operations));
-      additions = map (placeOf h st) (those (isListedOf 3 h st) (st .operations));
-      writes = map (writeOf st) (those (isListedOf 3 h st) (st .operations));
-      earlier = pairs (isEarlier h st) (st .operations) (st .operations);
-      ties = pairs (isTie h st) (st .operations) (st .operations);
+      who = map (λ i. cond (isListed F st i) 1 0) (those anyone (st .operations));
+      reads = map (placeOf F st) (those (isListedOf 2 F st) (st .operations));
+      additions = map (placeOf F st) (those (isListedOf 3 F st) (st .operations));
+      writes = map (writeOf st) (those (isListedOf 3 F st) (st .operations));
+      earlier = pairs (isEarlier F st) (st .operations) (st .operations);
+      ties = pairs (isTie F st) (st .operations) (st .operations);
     }
 
 -- ---- who is listed how often, and finished before started
@@ -138,25 +139,25 @@ pub record Standing : Type 0 where
   pub strangers : ℕ
   pub order : List (ℕ × ℕ)
 
-unfoldable pub standingSeen : ℕ → State → Standing
-standingSeen h st =
-    let l : List ℕ = listed h (st .history) in
+unfoldable pub standingSeen : Form → State → Standing
+standingSeen F st =
+    let l : List ℕ = listed F (st .history) in
     record {
       finished = those (λ i. st .row i .finished && eqb (timesIn i l) 1) (st .operations);
       unfinished = those (λ i. not (st .row i .finished) && leb (timesIn i l) 1) (st .operations);
       reads = those (λ i. eqb (st .row i .kind) 2 && not (st .row i .finished) && eqb (timesIn i l) 0) (st .operations);
       strangers = timesIn (st .operations) l;
-      order = pairs (λ i j. isOver h st i j && ltb (rank h (st .history) i) (rank h (st .history) j)) (st .operations) (st .operations);
+      order = pairs (λ i j. isOver F st i j && ltb (rank F (st .history) i) (rank F (st .history) j)) (st .operations) (st .operations);
     }
 
-unfoldable pub standingGiven : ℕ → State → Standing
-standingGiven h st =
+unfoldable pub standingGiven : Form → State → Standing
+standingGiven F st =
     record {
       finished = those (λ i. st .row i .finished) (st .operations);
       unfinished = those (λ i. not (st .row i .finished)) (st .operations);
       reads = those (λ i. eqb (st .row i .kind) 2 && not (st .row i .finished)) (st .operations);
       strangers = 0;
-      order = pairs (isOver h st) (st .operations) (st .operations);
+      order = pairs (isOver F st) (st .operations) (st .operations);
     }
 
 -- ---- the reads' answers, and the counter
@@ -165,12 +166,12 @@ pub record Numbers : Type 0 where
   pub answers : List ℕ
   pub counter : ℕ
 
-unfoldable pub numbersSeen : ℕ → State → Numbers
-numbersSeen h st = record { answers = map (λ i. st .row i .answer) (those (λ i. isDone 2 (st .row i)) (st .operations)); counter = st .memory .value root }
+unfoldable pub numbersSeen : Form → State → Numbers
+numbersSeen F st = record { answers = map (λ i. st .row i .answer) (those (λ i. isDone 2 (st .row i)) (st .operations)); counter = st .memory .value root }
 
-unfoldable pub numbersGiven : ℕ → State → Numbers
-numbersGiven h st =
-    let l : List ℕ = listed h (st .history) in
+unfoldable pub numbersGiven : Form → State → Numbers
+numbersGiven F st =
+    let l : List ℕ = listed F (st .history) in
     record { answers = map (λ i. runDown (st .row) 0 (upTo i l)) (those (λ i. isDone 2 (st .row i)) (st .operations)); counter = runDown (st .row) 0 l }
 
 -- ---- the steps; of each process, its step number after as many steps as the bound alone
@@ -182,24 +183,24 @@ pub record Counts : Type 0 where
   pub bound : List ℕ
   pub idles : List ℕ
 
-unfoldable pub countsSeen : ℕ → State → Counts
-countsSeen h st =
+unfoldable pub countsSeen : Form → State → Counts
+countsSeen F st =
     record {
       reads = map (λ i. st .row i .steps) (those (λ i. isDone 2 (st .row i)) (st .operations));
       additions = map (λ i. st .row i .steps) (those (λ i. isDone 3 (st .row i)) (st .operations));
-      seconds = those (λ i. isDone 3 (st .row i) && leb (st .row i .seconds) h) (st .operations);
-      bound = those (λ i. not (st .row i .finished) && ltb (st .row i .steps) (2 + 8 * h)) (st .operations);
-      idles = map (λ p. alone h p (2 + 8 * h) st .process p .step) (those anyone (processes h));
+      seconds = those (λ i. isDone 3 (st .row i) && leb (st .row i .seconds) (F .height)) (st .operations);
+      bound = those (λ i. not (st .row i .finished) && ltb (st .row i .steps) (2 + 8 * F .height)) (st .operations);
+      idles = map (λ p. alone F p (2 + 8 * F .height) st .process p .step) (those anyone (processes (F .height)));
     }
 
-unfoldable pub countsGiven : ℕ → State → Counts
-countsGiven h st =
+unfoldable pub countsGiven : Form → State → Counts
+countsGiven F st =
     record {
       reads = map (λ i. 1) (those (λ i. isDone 2 (st .row i)) (st .operations));
-      additions = map (λ i. 2 + 4 * h + 4 * st .row i .seconds) (those (λ i. isDone 3 (st .row i)) (st .operations));
+      additions = map (λ i. 2 + 4 * F .height + 4 * st .row i .seconds) (those (λ i. isDone 3 (st .row i)) (st .operations));
       seconds = those (λ i. isDone 3 (st .row i)) (st .operations);
       bound = those (λ i. not (st .row i .finished)) (st .operations);
-      idles = map (λ p. 0) (those anyone (processes h));
+      idles = map (λ p. 0) (those anyone (processes (F .height)));
     }
 
 -- ---- all columns
@@ -212,19 +213,19 @@ pub record Columns : Type 0 where
 
 unfoldable pub reported : List ℕ → Columns
 reported s =
-    let st : State = stateOf (outcome s) in
-    record { listing = listingSeen (height s) st; standing = standingSeen (height s) st; numbers = numbersSeen (height s) st; counts = countsSeen (height s) st }
+    let st : State = stateOf (formOf s) (outcome s) in
+    record { listing = listingSeen (formOf s) st; standing = standingSeen (formOf s) st; numbers = numbersSeen (formOf s) st; counts = countsSeen (formOf s) st }
 
 unfoldable pub given : List ℕ → List ℕ → Columns
 given s l =
-    let st : State = stateOf (outcome s) in
-    record { listing = listingGiven (height s) st l; standing = standingGiven (height s) st; numbers = numbersGiven (height s) st; counts = countsGiven (height s) st }
+    let st : State = stateOf (formOf s) (outcome s) in
+    record { listing = listingGiven (formOf s) st l; standing = standingGiven (formOf s) st; numbers = numbersGiven (formOf s) st; counts = countsGiven (formOf s) st }
 
 -- each recording with the list that the document gives it
 unfoldable pub allMeet : List (List ℕ) → List (List ℕ) → Bool
 allMeet [] ls = true
 allMeet (s ∷ rs) [] = false
-allMeet (s ∷ rs) (l ∷ ls) = meets (height s) (stateOf (outcome s)) l && allMeet rs ls
+allMeet (s ∷ rs) (l ∷ ls) = meets (formOf s) (stateOf (formOf s) (outcome s)) l && allMeet rs ls
 
 unfoldable pub allGiven : List (List ℕ) → List (List ℕ) → List Columns
 allGiven [] ls = []

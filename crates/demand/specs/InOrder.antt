@@ -6,6 +6,7 @@ use mathlib.Core.Bool.{Bool, true, false, cond, _&&_, _||_}
 use mathlib.Core.List.{List, [], _∷_}
 use lib.ListN.{length}
 use lib.Dec.{eqb}
+use Rattle.meaning.specs.Shape.{Form}
 use Rattle.meaning.specs.Tree.{leafOf, root}
 use Rattle.meaning.specs.Access.{isRootRead, isLeafWrite, isStoreAt}
 use Rattle.meaning.specs.Run.{Entry, Row, State}
@@ -33,19 +34,19 @@ hasRead i [] = false
 hasRead i (e ∷ es) = hasRead i es || isReadBy i e
 
 -- whether i, as an addition of its row's process, is in node 1
-unfoldable pub isTakenIn : ℕ → (ℕ → Row) → ℕ → List Entry → Bool
-isTakenIn h row i es = isInNode h (leafOf h (row i .process)) i es
+unfoldable pub isTakenIn : Form → (ℕ → Row) → ℕ → List Entry → Bool
+isTakenIn F row i es = isInNode (F .height) (leafOf (F .height) (row i .process)) i es
 
 -- "The list of demand 3 holds finished reads [..] and additions that are in node 1": whether it holds i, at the end
-unfoldable pub isListed : ℕ → State → ℕ → Bool
-isListed h st i = (eqb (st .row i .kind) 2 && st .row i .finished) || (eqb (st .row i .kind) 3 && isTakenIn h (st .row) i (st .history))
+unfoldable pub isListed : Form → State → ℕ → Bool
+isListed F st i = (eqb (st .row i .kind) 2 && st .row i .finished) || (eqb (st .row i .kind) 3 && isTakenIn F (st .row) i (st .history))
 
 -- a read is "placed at [its] one step", an addition "at the SC that took [it] in": the number of that record
-unfoldable pub isPlaced : ℕ → (ℕ → Row) → ℕ → List Entry → Bool
-isPlaced h row i es = cond (eqb (row i .kind) 2) (hasRead i es) (isTakenIn h row i es)
+unfoldable pub isPlaced : Form → (ℕ → Row) → ℕ → List Entry → Bool
+isPlaced F row i es = cond (eqb (row i .kind) 2) (hasRead i es) (isTakenIn F row i es)
 
-unfoldable pub placeOf : ℕ → State → ℕ → ℕ
-placeOf h st i = firstAfter (isPlaced h (st .row) i) (st .history)
+unfoldable pub placeOf : Form → State → ℕ → ℕ
+placeOf F st i = firstAfter (isPlaced F (st .row) i) (st .history)
 
 -- the number of an addition's leaf write
 unfoldable pub writeOf : State → ℕ → ℕ
@@ -57,16 +58,16 @@ isAt such n [] = false
 isAt such n (e ∷ es) = cond (eqb n (length es)) (such e) (isAt such n es)
 
 -- these are the records by whose numbers the list is ordered
-pub record Places (h : ℕ) (st : State) : Type 0 where
-  pub reads : (i : ℕ) → isListed h st i ≡ true → st .row i .kind ≡ 2 → isAt (isReadBy i) (placeOf h st i) (st .history) ≡ true
-  pub additions : (i : ℕ) → isListed h st i ≡ true → st .row i .kind ≡ 3 → isAt isRootStore (placeOf h st i) (st .history) ≡ true
-  pub writes : (i : ℕ) → isListed h st i ≡ true → st .row i .kind ≡ 3 → isAt (isWriteBy i) (writeOf st i) (st .history) ≡ true
+pub record Places (F : Form) (st : State) : Type 0 where
+  pub reads : (i : ℕ) → isListed F st i ≡ true → st .row i .kind ≡ 2 → isAt (isReadBy i) (placeOf F st i) (st .history) ≡ true
+  pub additions : (i : ℕ) → isListed F st i ≡ true → st .row i .kind ≡ 3 → isAt isRootStore (placeOf F st i) (st .history) ≡ true
+  pub writes : (i : ℕ) → isListed F st i ≡ true → st .row i .kind ≡ 3 → isAt (isWriteBy i) (writeOf st i) (st .history) ≡ true
 
-pub record ListOf (h : ℕ) (st : State) (l : List ℕ) : Type 0 where
+pub record ListOf (F : Form) (st : State) (l : List ℕ) : Type 0 where
   -- each operation that is listed stands in l once, and nothing else does
-  pub who : (i : ℕ) → timesIn i l ≡ cond (isListed h st i) 1 0
+  pub who : (i : ℕ) → timesIn i l ≡ cond (isListed F st i) 1 0
   -- of two, the one placed at the earlier record stands first
-  pub earlier : (i j : ℕ) → isListed h st i ≡ true → isListed h st j ≡ true → placeOf h st i < placeOf h st j → positionOf i l < positionOf j l
+  pub earlier : (i j : ℕ) → isListed F st i ≡ true → isListed F st j ≡ true → placeOf F st i < placeOf F st j → positionOf i l < positionOf j l
   -- "Additions with the same SC are ordered by their leaf writes."
-  pub ties : (i j : ℕ) → isListed h st i ≡ true → isListed h st j ≡ true → st .row i .kind ≡ 3 → st .row j .kind ≡ 3 → placeOf h st i ≡ placeOf h st j
+  pub ties : (i j : ℕ) → isListed F st i ≡ true → isListed F st j ≡ true → st .row i .kind ≡ 3 → st .row j .kind ≡ 3 → placeOf F st i ≡ placeOf F st j
       → writeOf st i < writeOf st j → positionOf i l < positionOf j l

@@ -1,5 +1,3 @@
 pub mod InOrder
 pub mod Demand3
 pub mod Applied
-pub mod ReadBack
-pub mod AppliedBytes

@@ -9,9 +9,10 @@ use lib.Seq.{drop-drop, getD-take, getD-drop, take-all}
 use lib.Dec.{leb, ltb}
 use borrow.Author.Tests.{leb-true, leb-false, ltb-false, le-leb, lt-leb, le-ltb}
 use Rattle.recording.specs.Numbers.{numberAt}
+use Rattle.meaning.specs.Shape.{highestShape}
 use Rattle.meaning.specs.Layout.{follows, headRefusal}
 use Rattle.meaning.specs.Drawer.{Found, none, whole, broken, Pieces, into, fails, sizeAt, foundAt, also, onward, piecesFrom, piecesOf, joined}
-use Rattle.rules.proofs.Laws.{header-passes}
+use Rattle.history.proofs.Passing.{header-passes}
 use Rattle.drawer.specs.AsAlone.{Cutting}
 use Rattle.drawer.proofs.Reached.{same-parts, piece-length}
 
@@ -100,19 +101,19 @@ cutting s ss e = let m = makes (length s) s 0 ss (omega arith) (omega arith) e i
 
 -- ---- a recording whose header passes is a drawer of one piece
 
-pub one-piece : (s : List ℕ) → headRefusal s ≡ 0 → piecesOf s ≡ into (s ∷ [])
+pub one-piece : (s : List ℕ) → headRefusal highestShape s ≡ 0 → piecesOf s ≡ into (s ∷ [])
 unfolding piecesOf piecesFrom onward also foundAt sizeAt follows
 one-piece s z = go (length s) refl
   where
     go : (n : ℕ) → length s ≡ n → piecesFrom n s 0 ≡ into (s ∷ [])
-    go zero d = absurd (omega (arith, header-passes s z .enough))
+    go zero d = absurd (omega (arith, header-passes highestShape s z .enough))
     go (suc n) d = first n
       where
         size : sizeAt s 0 ≡ length s
-        size = omega (arith, header-passes s z .right, header-passes s z .enough)
+        size = omega (arith, header-passes highestShape s z .right, header-passes highestShape s z .enough)
 
         found : foundAt s 0 ≡ whole (length s)
-        found = rw (lt-leb (length s) 0 (omega (arith, header-passes s z .enough)), size, le-ltb (length s - 0) 5 (omega (arith, header-passes s z .enough)), le-ltb (length s - 0) (length s) (omega arith))
+        found = rw (lt-leb (length s) 0 (omega (arith, header-passes highestShape s z .enough)), size, le-ltb (length s - 0) 5 (omega (arith, header-passes highestShape s z .enough)), le-ltb (length s - 0) (length s) (omega arith))
 
         rest : (m : ℕ) → piecesFrom m s (0 + length s) ≡ into []
         rest zero = refl

@@ -10,11 +10,12 @@ use lib.Dec.{ltb, leb, eqb}
 use borrow.Author.Tests.{eq-eqb, le-ltb, le-leb, lt-leb, ltb-true, ltb-false}
 use Rattle.recording.specs.Numbers.{fourBytes}
 use Rattle.recording.specs.Record.{Answer}
-use Rattle.meaning.specs.Layout.{headRefusal, height}
+use Rattle.meaning.specs.Shape.{highestShape}
+use Rattle.meaning.specs.Layout.{headRefusal, formOf}
 use Rattle.meaning.specs.Run.{State, Outcome, refused, accepted, outcome}
 use Rattle.meaning.specs.Report.{reportBytes, needed, passes, answerWith, bufferWith, reportAnswer, reportBuffer, checkWith, checkAnswer}
 use Rattle.meaning.specs.Drawer.{Pieces, into, fails, piecesOf, reportWith, reportOf, markOf, joined, longestDrawer, answerWithin, answerCut, drawerAnswer, over, given, drawerReports, drawerMarks}
-use Rattle.engine.proofs.Accepted.{none-refused, accepted-run}
+use Rattle.history.proofs.Accepted.{none-refused, accepted-run}
 use Rattle.entries.specs.Promises.{answerOf, Reports}
 use Rattle.entries.specs.declared.Reply.{Reply}
 use Rattle.entries.proofs.Laws.{same-reply, refusal-positive}
@@ -70,13 +71,13 @@ report-front : (p before after : List ℕ) (r : Reply) → Reports p before afte
 unfolding bytesFrom reportOf reportAnswer reportBuffer answerOf answerWith bufferWith reportWith passes
 report-front p before after r w z = go (outcome p) refl (ap (λ (a : Answer). a .number) (w .answer)) (w .buffer)
   where
-    laid : (st : State) (b : Bool) → r .number ≡ cond b passes (record { number = 11; place = needed st }) .number → after ≡ cond b (reportBytes (height p) st ++ drop (needed st) before) before
-        → take (length (reportBytes (height p) st)) after ≡ reportBytes (height p) st
-    laid st true n e = ap (take (length (reportBytes (height p) st))) e ∙ take-append-seam (reportBytes (height p) st) (drop (needed st) before)
+    laid : (st : State) (b : Bool) → r .number ≡ cond b passes (record { number = 11; place = needed st }) .number → after ≡ cond b (reportBytes (formOf p) st ++ drop (needed st) before) before
+        → take (length (reportBytes (formOf p) st)) after ≡ reportBytes (formOf p) st
+    laid st true n e = ap (take (length (reportBytes (formOf p) st))) e ∙ take-append-seam (reportBytes (formOf p) st) (drop (needed st) before)
     laid st false n e = absurd (omega arith)
 
-    go : (o : Outcome) → outcome p ≡ o → r .number ≡ answerWith o (length before) .number → after ≡ bufferWith (height p) o before
-        → take (length (reportWith (height p) o)) after ≡ reportWith (height p) o
+    go : (o : Outcome) → outcome p ≡ o → r .number ≡ answerWith o (length before) .number → after ≡ bufferWith (formOf p) o before
+        → take (length (reportWith (formOf p) o)) after ≡ reportWith (formOf p) o
     go (refused a) e n b = absurd (omega (arith, refusal-positive p a e))
     go (accepted st) e n b = laid st (leb (needed st) (length before)) n b
 
@@ -84,7 +85,7 @@ nothing-refused : (p : List ℕ) (r : Reply) → answerOf r ≡ checkAnswer p �
 unfolding reportOf reportWith checkAnswer checkWith answerOf passes
 nothing-refused p r e n = go (outcome p) (ap (λ (a : Answer). a .number) e)
   where
-    go : (o : Outcome) → r .number ≡ checkWith o .number → length (reportWith (height p) o) ≡ 0
+    go : (o : Outcome) → r .number ≡ checkWith o .number → length (reportWith (formOf p) o) ≡ 0
     go (refused a) d = refl
     go (accepted st) d = absurd (n d)
 
@@ -131,11 +132,11 @@ each-alone s out marks out′ marks′ r w z =
 module _ (s : List ℕ) (st : State) (e : outcome s ≡ accepted st) where
   one : piecesOf s ≡ into (s ∷ [])
   unfolding outcome
-  one = one-piece s (none-refused (headRefusal s) 0 _ st e .0)
+  one = one-piece s (none-refused (headRefusal highestShape s) 0 _ st e .0)
 
-  one-report : joined reportOf (s ∷ []) ≡ reportBytes (height s) st
+  one-report : joined reportOf (s ∷ []) ≡ reportBytes (formOf s) st
   unfolding joined reportOf reportWith
-  one-report = append-nil (reportOf s) ∙ ap (reportWith (height s)) e
+  one-report = append-nil (reportOf s) ∙ ap (reportWith (formOf s)) e
 
   one-mark : length (joined markOf (s ∷ [])) ≡ 5
   one-mark = length-marks (s ∷ [])
@@ -145,7 +146,7 @@ module _ (s : List ℕ) (st : State) (e : outcome s ≡ accepted st) where
     pub one-answer : drawerAnswer s out marks ≡ reportAnswer s out
     unfolding drawerAnswer answerCut answerWithin longestDrawer reportAnswer answerWith needed
     one-answer =
-        rw (le-ltb 16777216 (length s) (omega (arith, accepted-run s st e .0 .short)), one, one-report, report-length (height s) st, e, le-ltb (length marks) (length (joined markOf (s ∷ []))) (omega (arith, one-mark)))
+        rw (le-ltb 16777216 (length s) (omega (arith, accepted-run s st e .0 .short)), one, one-report, report-length (formOf s) st, e, le-ltb (length marks) (length (joined markOf (s ∷ []))) (omega (arith, one-mark)))
         (go (ltb (length out) (9 + 20 * st .operations)) refl)
       where
         go : (b : Bool) → ltb (length out) (9 + 20 * st .operations) ≡ b
@@ -158,11 +159,11 @@ module _ (s : List ℕ) (st : State) (e : outcome s ≡ accepted st) where
     one-buffer = rw (one-answer, one, one-report, e) (go (leb (9 + 20 * st .operations) (length out)))
       where
         bytes : List ℕ
-        bytes = reportBytes (height s) st
+        bytes = reportBytes (formOf s) st
 
         go : (b : Bool)
             → over (cond (eqb (cond b passes (record { number = 11; place = 9 + 20 * st .operations }) .number) 0) bytes []) out ≡ cond b (bytes ++ drop (9 + 20 * st .operations) out) out
-        go true = ap (λ (n : ℕ). bytes ++ drop n out) (report-length (height s) st)
+        go true = ap (λ (n : ℕ). bytes ++ drop n out) (report-length (formOf s) st)
         go false = refl
 
     -- one true recording: the answer and out are those of report

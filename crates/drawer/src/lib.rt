@@ -1,6 +1,12 @@
 // A drawer of recordings, end to end: the cut, the bytes needed, and the reports and marks laid.
+use arrays::NUMBERS_IN_ROW;
 use engine::Ended;
 use entries::Reply;
+use recording::FIRST_RECORD;
+use recording::LONGEST_RECORDING;
+use recording::LONGEST_REPORT;
+use recording::MOST_OPERATIONS;
+use recording::ROW_LENGTH;
 use recording::number;
 ghost use Prim.Native.Nat.{_+_, _≤_, _<_};
 ghost use mathlib.Core.Path.{_≡_};
@@ -46,17 +52,17 @@ fn size_at(s: &[u8], at: usize) -> usize
 fn most_of(size: usize) -> usize
     ensures { λ r. ⌜ r ≡ mostOf size ⌝ }
 {
-    if size < 6 {
+    if size < FIRST_RECORD {
         return 0;
     }
-    if 65536 < size {
+    if LONGEST_RECORDING < size {
         return 0;
     }
-    let starts = (size - 6) / 3;
-    if starts < 1024 {
-        9 + 20 * starts
+    let starts = (size - FIRST_RECORD) / 3;
+    if starts < MOST_OPERATIONS as usize {
+        9 + ROW_LENGTH * starts
     } else {
-        20489
+        LONGEST_REPORT
     }
 }
 
@@ -87,7 +93,7 @@ fn bytes_of(e: Ended) -> usize
     if e.number != 0 {
         return 0;
     }
-    9 + 20 * e.operations as usize
+    9 + ROW_LENGTH * e.operations as usize
 }
 
 // The bytes of a piece's report, by a run that keeps no rows.
@@ -166,9 +172,9 @@ fn lay_all(s: &[u8], out: &mut [u8], marks: &mut [u8])
     ensures { λ r. ⌜ LaysAll (now (s .entry)) (now (out .entry)) (now (marks .entry)) (now (out .exit)) (now (marks .exit)) ⌝ }
 {
     let mut read = [[0u16; 64]; 64];
-    let mut queue = [0u16; 1024];
-    let mut turns = [0u16; 1024];
-    let mut rows = [0u32; 5120];
+    let mut queue = [0u16; MOST_OPERATIONS as usize];
+    let mut turns = [0u16; MOST_OPERATIONS as usize];
+    let mut rows = [0u32; NUMBERS_IN_ROW * MOST_OPERATIONS as usize];
     let mut greatest = [0u8; 64];
     let mut at: usize = 0;
     let mut laid: usize = 0;

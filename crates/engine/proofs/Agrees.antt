@@ -9,24 +9,32 @@ use lib.ListN.{length, getD, set, length-set}
 use lib.Seq.{getD-set-same, getD-set-other}
 use lib.Pow.{pow-mono}
 use lib.Dec.{eqb}
-use borrow.Author.Tests.{eqb-true, eqb-false, not-true}
+use borrow.Author.Tests.{eqb-true, eqb-false}
 use Rattle.sets.specs.Processes.{with, countBelow, isIn}
 use Rattle.sets.proofs.Laws.{is-with, is-without, count-beyond}
-use Rattle.arrays.proofs.Laws.{upd-is}
+use Rattle.meaning.proofs.Updates.{upd-is}
+use Rattle.recording.specs.declared.Form.{Form as Told}
 use Rattle.meaning.specs.Tree.{processes}
-use Rattle.meaning.specs.Steps.{upd, Memory, Process, effect, accessOf, nextRecord}
-use Rattle.meaning.specs.Run.{State, busy, busyCount, started, kindOf, start, takeStep}
+use Rattle.meaning.specs.Shape.{Form, formed}
+use Rattle.meaning.specs.Access.{Access}
+use Rattle.meaning.specs.Steps.{upd, Memory, Process, effect, onward, accessOf, nextRecord}
+use Rattle.meaning.specs.Run.{State, busy, busyCount, started, kindOf, start, mostOperations, takeStep}
+use Rattle.climb.specs.Climb.{Known}
 use Rattle.machine.specs.Arrays.{memoryOf, processOf, idleRecord, startedRecord}
-use Rattle.machine.specs.Nexts.{Nexts, effectOf, CanStep, lastStep}
+use Rattle.machine.specs.Nexts.{Nexts, effectOf, CanStep}
+use Rattle.spots.specs.Spot.{lastStep}
+use Rattle.spots.proofs.Shapes.{of-write}
 use Rattle.machine.specs.declared.Process.{Process as Record}
 use Rattle.ledger.specs.Kept.{Kept, keptStep, keptStart}
-use Rattle.ledger.proofs.Good.{Good, Stepping, good-step, good-start, effectBy, recordAfter}
+use Rattle.machine.proofs.Known.{addition-past-1}
+use Rattle.machine.proofs.Laws.{started-is}
+use Rattle.history.proofs.Good.{Good, Stepping, good-step, good-start, effectBy, recordAfter}
 use Rattle.ledger.proofs.Keeps.{Keeps, keeps-step, keeps-start}
 use Rattle.ledger.proofs.Numbers.{shownAfter}
 use Rattle.ledger.proofs.Total.{Total, total-step, total-start}
-use Rattle.ledger.proofs.Held.{Held, held-step, held-start}
+use Rattle.history.proofs.Held.{Held, held-step, held-start}
 use Rattle.contention.specs.Greatest.{raised}
-use Rattle.contention.proofs.Busy.{busy-at, busy-else}
+use Rattle.history.proofs.Busy.{busy-at, busy-else, is-busy, is-idle}
 use Rattle.contention.proofs.Greatest.{Greatest, greatest-step, greatest-start}
 use Rattle.engine.specs.Tries.{busyThen}
 
@@ -34,8 +42,9 @@ use Rattle.engine.specs.Tries.{busyThen}
 abbrev pub procsOf : List Record → ℕ → Process
 procsOf ps p = processOf (getD ps p idleRecord)
 
-pub record Agrees (h at : ℕ) (st : State) (vals links : List ℕ) (ps : List Record) (set m : ℕ) : Type 0 where
-  pub good : Good h st
+pub record Agrees (form : Told) (at : ℕ) (st : State) (vals links : List ℕ) (ps : List Record) (set m : ℕ) : Type 0 where
+  pub known : Known form
+  pub good : Good (formed form) st
   pub memory : memoryOf vals links ≡ st .memory
   pub procs : procsOf ps ≡ st .process
   pub long : length ps ≡ 64
@@ -45,30 +54,18 @@ pub record Agrees (h at : ℕ) (st : State) (vals links : List ℕ) (ps : List R
   pub place : 3 * length (st .history) + 6 ≤ at
   pub started : 3 * m + 6 ≤ at
 
-pub record Ledger (h : ℕ) (st : State) (k : Kept) (greatest : ℕ → ℕ) : Type 0 where
+pub record Ledger (F : Form) (st : State) (k : Kept) (greatest : ℕ → ℕ) : Type 0 where
   -- the contentions that the rows have
   pub shown : ℕ → ℕ
-  pub keeps : Keeps h st shown k
+  pub keeps : Keeps F st shown k
   pub total : Total st k
-  pub held : Held h st
-  pub most : Greatest h st shown greatest
+  pub held : Held F st
+  pub most : Greatest F st shown greatest
 
 -- the processes' records after a store
 procs-set : (ps : List Record) (p : ℕ) (r : Record) → p < length ps → procsOf (set ps p r) ≡ upd (procsOf ps) p (processOf r)
 procs-set ps p r b =
     upd-is (procsOf ps) p (processOf r) (procsOf (set ps p r)) (ap processOf (getD-set-same ps p r idleRecord b)) (λ q n. ap processOf (getD-set-other ps p q r idleRecord n))
-
-pub is-busy : (f : ℕ → Process) (p : ℕ) → busy f p ≡ true → 1 ≤ f p .step
-unfolding busy
-is-busy f p b = let n = eqb-false (f p .step) 0 (not-true (eqb (f p .step) 0) b) in omega arith
-
-pub is-idle : (f : ℕ → Process) (p : ℕ) → busy f p ≡ false → f p .step ≡ 0
-unfolding busy
-is-idle f p b = eqb-true (f p .step) 0 (go (eqb (f p .step) 0) b)
-  where
-    go : (t : Bool) → not t ≡ false → t ≡ true
-    go true e = refl
-    go false e = sym e
 
 not-busy : (f : ℕ → Process) (q : ℕ) → f q .step ≡ 0 → busy f q ≡ false
 unfolding busy
@@ -87,42 +84,51 @@ busy-step f p r b = go (eqb (r .step) 0) refl
 
 -- ---- a step
 
-module _ (h at : ℕ) (st : State) (vals links : List ℕ) (ps : List Record) (set₀ m : ℕ) (A : Agrees h at st vals links ps set₀ m)
-    (p : ℕ) (inside : p < 2 ^ h) (acts : isIn set₀ p ≡ true) where
+module _ (form : Told) (at : ℕ) (st : State) (vals links : List ℕ) (ps : List Record) (set₀ m : ℕ) (A : Agrees form at st vals links ps set₀ m)
+    (p : ℕ) (inside : p < 2 ^ form .height) (acts : isIn set₀ p ≡ true) where
   its : processOf (getD ps p idleRecord) ≡ st .process p
   its = ap (λ (f : ℕ → Process). f p) (A .procs)
 
-  pub stepping : Stepping h p st
+  pub stepping : Stepping (formed form) p st
   stepping = record { good = A .good; inside = inside; acts = is-busy (st .process) p (ap (λ (f : ℕ → Bool). f p) (sym (A .busySet)) ∙ acts) }
 
   -- what the code's step may do
-  pub can-step : CanStep h p (getD ps p idleRecord)
+  pub can-step : CanStep form p (getD ps p idleRecord)
   unfolding processOf
   can-step =
       record {
-        low = A .good .low;
-        high = A .good .high;
+        known = A .known;
         process = inside;
         busy = subst (λ (x : Process). 1 ≤ x .step) (sym its) (stepping .acts);
-        last = subst (λ (x : Process). x .step ≤ lastStep h (x .adds)) (sym its) (A .good .range p);
+        last = subst (λ (x : Process). x .step ≤ lastStep (formed form) p (x .adds)) (sym its) (A .good .range p);
       }
 
   -- the code's step is the definition's
-  module _ (vals′ links′ : List ℕ) (r : Record) (n : Nexts h p (getD ps p idleRecord) vals links vals′ links′ r) where
-    rec : processOf r ≡ recordAfter h p st
+  module _ (vals′ links′ : List ℕ) (r : Record) (n : Nexts form p (getD ps p idleRecord) vals links vals′ links′ r) where
+    rec : processOf r ≡ recordAfter (formed form) p st
     unfolding effectOf
-    rec = n .process ∙ ap₂ (λ (x : Process) (w : Memory). nextRecord h p x (effect p x w (accessOf h p x))) its (A .memory)
+    rec = n .process ∙ ap₂ (λ (x : Process) (w : Memory). nextRecord (formed form) p x (effect (formed form) p x w (accessOf (formed form) p x))) its (A .memory)
+
+    -- a leaf write is no SC
+    pub still-write : getD ps p idleRecord .step ≡ 2 → r .stored ≡ false
+    unfolding effectOf effect onward processOf
+    still-write two =
+        let own = getD ps p idleRecord in
+        n .stored
+        ∙ ap (λ (a : Access). effect (formed form) p (processOf own) (memoryOf vals links) a .stored)
+        (of-write (formed form) p (processOf own) (A .good .lawful) (addition-past-1 form p own can-step (omega (arith, two))) two)
 
     pub agrees-step : (next : ℕ) (ps′ : List Record) (set′ : ℕ) → at + 3 ≤ next → ps′ ≡ set ps p r → isIn set′ ≡ busyThen (eqb (r .step) 0) p (isIn set₀)
-        → Agrees h next (takeStep h p st) vals′ links′ ps′ set′ m
+        → Agrees form next (takeStep (formed form) p st) vals′ links′ ps′ set′ m
     unfolding takeStep effectOf processOf
     agrees-step next ps′ set′ further ep es =
         record {
-          good = good-step h p st stepping;
-          memory = n .memory ∙ ap₂ (λ (x : Process) (w : Memory). effect p x w (accessOf h p x) .memory) its (A .memory);
+          known = A .known;
+          good = good-step (formed form) p st stepping;
+          memory = n .memory ∙ ap₂ (λ (x : Process) (w : Memory). effect (formed form) p x w (accessOf (formed form) p x) .memory) its (A .memory);
           procs = ap procsOf ep ∙ procs-set ps p r (omega (arith, A .long, pow-mono (A .good .high))) ∙ ap₂ (λ (f : ℕ → Process) (x : Process). upd f p x) (A .procs) rec;
           long = ap length ep ∙ length-set ps p r ∙ A .long;
-          busySet = es ∙ ap (busyThen (eqb (r .step) 0) p) (A .busySet) ∙ ap (λ (x : Process). busyThen (eqb (x .step) 0) p (busy (st .process))) rec ∙ busy-step (st .process) p (recordAfter h p st) busy-now;
+          busySet = es ∙ ap (busyThen (eqb (r .step) 0) p) (A .busySet) ∙ ap (λ (x : Process). busyThen (eqb (x .step) 0) p (busy (st .process))) rec ∙ busy-step (st .process) p (recordAfter (formed form) p st) busy-now;
           operations = A .operations;
           place = omega (arith, A .place);
           started = omega (arith, A .started);
@@ -131,48 +137,47 @@ module _ (h at : ℕ) (st : State) (vals links : List ℕ) (ps : List Record) (s
         busy-now : busy (st .process) p ≡ true
         busy-now = ap (λ (f : ℕ → Bool). f p) (sym (A .busySet)) ∙ acts
 
-    pub ledger-step : (k k′ : Kept) (greatest : ℕ → ℕ) → Ledger h st k greatest
-        → k′ ≡ keptStep h p (processOf (getD ps p idleRecord)) (processOf r) (r .stored) (greatest p) k → Ledger h (takeStep h p st) k′ greatest
+    pub ledger-step : (k k′ : Kept) (greatest : ℕ → ℕ) → Ledger (formed form) st k greatest
+        → k′ ≡ keptStep (formed form) p (processOf (getD ps p idleRecord)) (processOf r) (r .stored) (greatest p) k → Ledger (formed form) (takeStep (formed form) p st) k′ greatest
     unfolding effectOf
     ledger-step k k′ greatest L ek =
         record {
-          shown = upd (L .shown) (st .process p .operation) (shownAfter (recordAfter h p st) (greatest p));
-          keeps = subst (Keeps h (takeStep h p st) _) (sym kept) (keeps-step h p st stepping (L .shown) k (L .keeps) none (greatest p));
-          total = subst (Total (takeStep h p st)) (sym kept) (total-step h p st stepping (L .shown) k (L .keeps) (L .total) (greatest p));
-          held = held-step h p st stepping (L .held);
-          most = greatest-step h p st stepping (L .held) (L .shown) greatest (L .most);
+          shown = upd (L .shown) (st .process p .operation) (shownAfter (recordAfter (formed form) p st) (greatest p));
+          keeps = subst (Keeps (formed form) (takeStep (formed form) p st) _) (sym kept) (keeps-step (formed form) p st stepping (L .shown) k (L .keeps) none (greatest p));
+          total = subst (Total (takeStep (formed form) p st)) (sym kept) (total-step (formed form) p st stepping k (L .total) (greatest p));
+          held = held-step (formed form) p st stepping (L .held);
+          most = greatest-step (formed form) p st stepping (L .held) (L .shown) greatest (L .most);
         }
       where
         -- its row shows no contention yet
         none : L .shown (st .process p .operation) ≡ 0
         none = L .most .unfinished (st .process p .operation) (A .good .owns p (stepping .acts)) (A .good .unfinished p (stepping .acts))
 
-        sto : r .stored ≡ effectBy h p st .stored
-        sto = n .stored ∙ ap₂ (λ (x : Process) (w : Memory). effect p x w (accessOf h p x) .stored) its (A .memory)
+        sto : r .stored ≡ effectBy (formed form) p st .stored
+        sto = n .stored ∙ ap₂ (λ (x : Process) (w : Memory). effect (formed form) p x w (accessOf (formed form) p x) .stored) its (A .memory)
 
-        kept : k′ ≡ keptStep h p (st .process p) (recordAfter h p st) (effectBy h p st .stored) (greatest p) k
-        kept = ek ∙ (λ i. keptStep h p (its i) (rec i) (sto i) (greatest p) k)
+        kept : k′ ≡ keptStep (formed form) p (st .process p) (recordAfter (formed form) p st) (effectBy (formed form) p st .stored) (greatest p) k
+        kept = ek ∙ (λ i. keptStep (formed form) p (its i) (rec i) (sto i) (greatest p) k)
 
 -- ---- a start
 
-module _ (h at : ℕ) (st : State) (vals links : List ℕ) (ps : List Record) (set₀ m : ℕ) (A : Agrees h at st vals links ps set₀ m)
-    (p : ℕ) (inside : p < 2 ^ h) (free : isIn set₀ p ≡ false) (room : m < 1024) (adds : Bool) (delta : ℕ) where
+module _ (form : Told) (at : ℕ) (st : State) (vals links : List ℕ) (ps : List Record) (set₀ m : ℕ) (A : Agrees form at st vals links ps set₀ m)
+    (p : ℕ) (inside : p < 2 ^ form .height) (free : isIn set₀ p ≡ false) (room : m < mostOperations) (adds : Bool) (delta : ℕ) where
   idle-now : st .process p .step ≡ 0
   idle-now = is-idle (st .process) p (ap (λ (f : ℕ → Bool). f p) (sym (A .busySet)) ∙ free)
 
-  room-now : st .operations < 1024
-  room-now = subst (λ (n : ℕ). n < 1024) (A .operations) room
+  room-now : st .operations < mostOperations
+  room-now = subst (λ (n : ℕ). n < mostOperations) (A .operations) room
 
   low : p < 64
   low = omega (arith, pow-mono (A .good .high))
 
   abbrev begun : State
-  begun = start h p adds delta st
+  begun = start (formed form) p adds delta st
 
   -- the new record is the definition's
   new-record : processOf (startedRecord m adds delta) ≡ started (st .operations) adds delta
-  unfolding processOf startedRecord started
-  new-record = ap (λ (n : ℕ). started n adds delta) (A .operations)
+  new-record = started-is m adds delta ∙ ap (λ (n : ℕ). started n adds delta) (A .operations)
 
   module _ (ps′ : List Record) (set′ : ℕ) (ep : ps′ ≡ set ps p (startedRecord m adds delta)) (es : isIn set′ ≡ with p (isIn set₀)) where
     set-now : isIn set′ ≡ busy (upd (st .process) p (started (st .operations) adds delta))
@@ -184,11 +189,12 @@ module _ (h at : ℕ) (st : State) (vals links : List ℕ) (ps : List Record) (s
         starts-busy : not (eqb (started (st .operations) adds delta .step) 0) ≡ true
         starts-busy = refl
 
-    pub agrees-start : (next : ℕ) → at + 3 ≤ next → Agrees h next begun vals links ps′ set′ (suc m)
+    pub agrees-start : (next : ℕ) → at + 3 ≤ next → Agrees form next begun vals links ps′ set′ (suc m)
     unfolding start
     agrees-start next further =
         record {
-          good = good-start h p adds delta st (A .good) inside idle-now room-now;
+          known = A .known;
+          good = good-start (formed form) p adds delta st (A .good) inside idle-now room-now;
           memory = A .memory;
           procs = procs-now;
           long = ap length ep ∙ length-set ps p _ ∙ A .long;
@@ -202,22 +208,22 @@ module _ (h at : ℕ) (st : State) (vals links : List ℕ) (ps : List Record) (s
         procs-now =
             ap procsOf ep ∙ procs-set ps p (startedRecord m adds delta) (omega (arith, A .long, low)) ∙ ap₂ (λ (f : ℕ → Process) (x : Process). upd f p x) (A .procs) new-record
 
-    pub ledger-start : (count : ℕ) (k k′ : Kept) (greatest greatest′ : ℕ → ℕ) → Ledger h st k greatest → count ≡ countBelow 64 (isIn set′) → k′ ≡ keptStart m p (kindOf adds) k
-        → greatest′ ≡ raised p count greatest → Ledger h begun k′ greatest′
+    pub ledger-start : (count : ℕ) (k k′ : Kept) (greatest greatest′ : ℕ → ℕ) → Ledger (formed form) st k greatest → count ≡ countBelow 64 (isIn set′) → k′ ≡ keptStart m p (kindOf adds) k
+        → greatest′ ≡ raised p count greatest → Ledger (formed form) begun k′ greatest′
     unfolding start busyCount processes
     ledger-start count k k′ greatest greatest′ L ec ek eg =
         record {
           shown = upd (L .shown) (st .operations) 0;
-          keeps = subst (Keeps h begun _) (sym kept) (keeps-start h p adds delta st (A .good) inside idle-now room-now (L .shown) k (L .keeps));
-          total = subst (Total begun) (sym kept) (total-start h p adds delta st (A .good) k (L .total) (kindOf adds));
-          held = held-start h p adds delta st (A .good) inside idle-now room-now (L .held);
-          most = subst (Greatest h begun _) (sym (eg ∙ ap (λ (n : ℕ). raised p n greatest) count-now)) (greatest-start h p adds delta st (A .good) inside idle-now room-now (L .held) (L .shown) greatest (L .most));
+          keeps = subst (Keeps (formed form) begun _) (sym kept) (keeps-start (formed form) p adds delta st (A .good) inside idle-now room-now (L .shown) k (L .keeps));
+          total = subst (Total begun) (sym kept) (total-start (formed form) p adds delta st (A .good) k (L .total) (kindOf adds));
+          held = held-start (formed form) p adds delta st (A .good) inside idle-now room-now (L .held);
+          most = subst (Greatest (formed form) begun _) (sym (eg ∙ ap (λ (n : ℕ). raised p n greatest) count-now)) (greatest-start (formed form) p adds delta st (A .good) inside idle-now room-now (L .held) (L .shown) greatest (L .most));
         }
       where
-        count-now : count ≡ busyCount h (begun .process)
+        count-now : count ≡ busyCount (formed form) (begun .process)
         count-now =
             ec ∙ ap (countBelow 64) set-now
-            ∙ count-beyond (2 ^ h) 64 _ (pow-mono (A .good .high)) (λ q b. not-busy (begun .process) q (good-start h p adds delta st (A .good) inside idle-now room-now .beyond q b))
+            ∙ count-beyond (2 ^ form .height) 64 _ (pow-mono (A .good .high)) (λ q b. not-busy (begun .process) q (good-start (formed form) p adds delta st (A .good) inside idle-now room-now .beyond q b))
 
         kept : k′ ≡ keptStart (st .operations) p (kindOf adds) k
         kept = ek ∙ ap (λ (i : ℕ). keptStart i p (kindOf adds) k) (A .operations)

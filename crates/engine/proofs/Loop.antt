@@ -1,7 +1,7 @@
 -- Where the loops begin, and what a start leaves.
 use Prim.Native.Nat.{ℕ, zero, suc, _≤_}
 use native.Mathlib.Omega.{arith}
-use mathlib.Core.Path.{_≡_, refl, ap, _∙_, fun-ext}
+use mathlib.Core.Path.{_≡_, refl, sym, ap, _∙_, fun-ext}
 use mathlib.Core.Bool.{Bool}
 use mathlib.Core.List.{List, []}
 use lib.ListN.{length, getD, replicate, length-replicate}
@@ -9,7 +9,11 @@ use Rattle.sets.specs.Processes.{nobody, isIn}
 use Rattle.sets.proofs.Laws.{isIn-empty}
 use Rattle.arrays.specs.Arrays.{asFun, asRows}
 use Rattle.arrays.proofs.Laws.{fun-zeros}
+use Rattle.recording.specs.declared.Form.{Form as Told}
+use Rattle.meaning.specs.Shape.{formed}
+use Rattle.meaning.specs.Layout.{firstRecord}
 use Rattle.meaning.specs.Steps.{idle}
+use Rattle.climb.specs.Climb.{Known}
 use Rattle.meaning.specs.Run.{initial, busy, kindOf}
 use Rattle.machine.specs.Arrays.{memoryOf, processOf, idleRecord}
 use Rattle.machine.specs.declared.Process.{Process as Record}
@@ -18,10 +22,13 @@ use Rattle.listing.specs.Queue.{queueOf}
 use Rattle.listing.specs.declared.Listed.{Listed}
 use Rattle.rows.specs.Rows.{withRow, freshNumbers}
 use Rattle.ledger.specs.Kept.{Kept, keptStart}
-use Rattle.ledger.proofs.Good.{good-initial}
+use Rattle.machine.proofs.Laws.{idle-is}
+use Rattle.spots.specs.Lawful.{Lawful}
+use Rattle.history.proofs.Good.{good-initial}
+use Rattle.spots.proofs.Shapes.{taken-lawful}
 use Rattle.ledger.proofs.Keeps.{keeps-initial}
 use Rattle.ledger.proofs.Total.{total-initial}
-use Rattle.ledger.proofs.Held.{held-initial}
+use Rattle.history.proofs.Held.{held-initial}
 use Rattle.contention.proofs.Greatest.{greatest-initial}
 use Rattle.keeping.specs.Keeping.{keptOf}
 use Rattle.engine.proofs.Agrees.{Agrees, procsOf}
@@ -41,24 +48,28 @@ all-same (suc n) zero a = refl
 all-same (suc n) (suc p) a = all-same n p a
 
 -- over the arrays' sizes
-module _ (s : List ℕ) (h : ℕ) (a : Record) (set₀ : ℕ) (low : 1 ≤ h) (high : h ≤ 6) (enough : 6 ≤ length s) (rests : a ≡ idleRecord) (none : isIn set₀ ≡ nobody) (v l n : ℕ) (all : n ≡ 64) where
-  no-values : memoryOf (replicate v 0) (replicate l 0) ≡ initial .memory
+module _ (s : List ℕ) (form : Told) (a : Record) (set₀ : ℕ) (known : Known form) (enough : firstRecord ≤ length s) (rests : a ≡ idleRecord) (none : isIn set₀ ≡ nobody) (v l n : ℕ) (all : n ≡ 64) where
+  lawful : Lawful (formed form .shape)
+  lawful = taken-lawful (form .shape) (known .shape)
+
+  no-values : memoryOf (replicate v 0) (replicate l 0) ≡ initial (formed form) .memory
   unfolding memoryOf initial
-  no-values = λ i. record { value = fun-zeros v i; linked = λ x. (ap (λ (f : ℕ → ℕ). isIn (f x)) (fun-zeros l) ∙ isIn-empty) i }
+  no-values = λ i. record { value = (fun-zeros v ∙ fun-ext (λ x. sym (lawful .zero))) i; linked = λ x. (ap (λ (f : ℕ → ℕ). isIn (f x)) (fun-zeros l) ∙ isIn-empty) i }
 
-  all-idle : procsOf (replicate n a) ≡ initial .process
-  unfolding initial processOf idleRecord idle
-  all-idle = fun-ext (λ p. ap (λ (x : Record). processOf (getD (replicate n x) p idleRecord)) rests ∙ ap processOf (all-same n p idleRecord))
+  all-idle : procsOf (replicate n a) ≡ initial (formed form) .process
+  unfolding initial
+  all-idle = fun-ext (λ p. ap (λ (x : Record). processOf (getD (replicate n x) p idleRecord)) rests ∙ ap processOf (all-same n p idleRecord) ∙ idle-is)
 
-  none-busy : isIn set₀ ≡ busy (initial .process)
+  none-busy : isIn set₀ ≡ busy (initial (formed form) .process)
   unfolding initial busy idle nobody
   none-busy = none
 
-  agreed : Agrees h 6 initial (replicate v 0) (replicate l 0) (replicate n a) set₀ 0
+  agreed : Agrees form firstRecord (initial (formed form)) (replicate v 0) (replicate l 0) (replicate n a) set₀ 0
   unfolding initial
   agreed =
       record {
-        good = good-initial h low high;
+        known = known;
+        good = good-initial (formed form) lawful (known .low) (known .high);
         memory = no-values;
         procs = all-idle;
         long = length-replicate n a ∙ all;
@@ -85,15 +96,15 @@ module _ (s : List ℕ) (h : ℕ) (a : Record) (set₀ : ℕ) (low : 1 ≤ h) (h
     unfolding keptOf
     none-listed = refl
 
-    pub begins-kept : RunsKept s h 6 (replicate v 0) (replicate l 0) (replicate n a) set₀ 0 asked nothing-kept greatest
+    pub begins-kept : RunsKept s form firstRecord (replicate v 0) (replicate l 0) (replicate n a) set₀ 0 asked nothing-kept greatest
     begins-kept =
-        runs-kept-begin s h _ _ _ set₀ asked _ greatest enough agreed
+        runs-kept-begin s form _ _ _ set₀ asked _ greatest enough agreed
         (record {
           shown = λ i. 0;
-          keeps = keeps-initial h (λ i. 0) nothing-kept no-counts no-queue none-listed;
-          total = total-initial nothing-kept no-queue none-listed;
-          held = held-initial h;
-          most = greatest-initial h (λ i. 0) greatest;
+          keeps = keeps-initial (formed form) (λ i. 0) nothing-kept no-counts no-queue none-listed;
+          total = total-initial (formed form) nothing-kept no-queue none-listed;
+          held = held-initial (formed form);
+          most = greatest-initial (formed form) (λ i. 0) greatest;
         })
 
 -- ---- what a turn leaves

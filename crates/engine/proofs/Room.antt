@@ -12,25 +12,27 @@ use borrow.Author.Tests.{eq-eqb, ne-eqb}
 use Rattle.sets.specs.Processes.{countBelow, isIn}
 use Rattle.sets.proofs.Laws.{count-differ, count-le}
 use Rattle.arrays.specs.Arrays.{asFun}
-use Rattle.meaning.specs.Access.{isLeafWrite}
+use Rattle.recording.specs.declared.Form.{Form as Told}
+use Rattle.meaning.specs.Access.{isLeafWrite, componentOf}
+use Rattle.meaning.specs.Shape.{Form, formed}
+use Rattle.meaning.specs.Layout.{longestRecording}
 use Rattle.meaning.specs.Steps.{Process}
 use Rattle.meaning.specs.Run.{Entry, State}
 use Rattle.meaning.specs.Report.{one}
-use Rattle.taken.specs.CountIn.{writesBy, countIn, Waiter, waiters}
+use Rattle.taken.specs.CountIn.{writesTo, countIn, Waiter, waiters}
 use Rattle.taken.proofs.Agree.{written}
 use Rattle.machine.specs.Arrays.{processOf, idleRecord}
-use Rattle.machine.specs.Nexts.{lastStep}
 use Rattle.machine.specs.declared.Process.{Process as Record}
 use Rattle.counts.specs.Counts.{countsOf, levels}
 use Rattle.rows.specs.Rows.{head, rowNumbers, RoomToStep, processBy, RoomToClose}
 use Rattle.listing.specs.Queue.{queueOf, CanList}
 use Rattle.listing.specs.declared.Listed.{Listed}
-use Rattle.listing.proofs.Laws.{All, none, more, length-queueOf, operations-all}
+use Rattle.taken.proofs.Lists.{All, none, more, mem-keep}
+use Rattle.listing.proofs.Laws.{length-queueOf, operations-all}
 use Rattle.ledger.specs.Kept.{Kept}
-use Rattle.ledger.proofs.Good.{Good, at-most-one}
-use Rattle.ledger.proofs.Did.{did, did-leaf}
-use Rattle.ledger.proofs.Kept.{mem-keep}
-use Rattle.ledger.proofs.Waiters.{waiter-writes}
+use Rattle.history.proofs.Good.{Good, at-most-one}
+use Rattle.history.proofs.Did.{did, did-leaf}
+use Rattle.history.proofs.Waiters.{waiter-writes}
 use Rattle.ledger.proofs.Total.{acts, size, total-few, not-acted}
 use Rattle.contention.proofs.Greatest.{shown-small}
 use Rattle.keeping.specs.Keeping.{keptOf, CanKeep}
@@ -41,14 +43,14 @@ all-of : {A : Type 0} (P : A → Type 0) (l : List A) → ((a : A) → List·Mem
 all-of P [] f = none
 all-of P (a ∷ l) f = more (f a (List·Memᴰ·head refl)) (all-of P l (λ x m. f x (List·Memᴰ·tail m)))
 
-writes-few : (q : ℕ) (es : List Entry) → writesBy q es ≤ length es
-unfolding writesBy
+writes-few : (q : ℕ) (es : List Entry) → writesTo q es ≤ length es
+unfolding writesTo
 writes-few q [] = omega arith
-writes-few q (e ∷ es) = go (isLeafWrite (e .access) && eqb q (e .process)) (writes-few q es)
+writes-few q (e ∷ es) = go (isLeafWrite (e .access) && eqb q (componentOf (e .access))) (writes-few q es)
   where
-    go : (t : Bool) → writesBy q es ≤ length es → writesBy q es + cond t 1 0 ≤ suc (length es)
-    go true h = omega arith
-    go false h = omega arith
+    go : (t : Bool) → writesTo q es ≤ length es → writesTo q es + cond t 1 0 ≤ suc (length es)
+    go true l = omega arith
+    go false l = omega arith
 
 -- where one is missing, the count is less
 count-less : (k p : ℕ) (s : ℕ → Bool) → p < k → s p ≡ false → countBelow k s < k
@@ -63,31 +65,26 @@ count-less k p s b e =
     or-none true = refl
     or-none false = refl
 
-last-small : (h : ℕ) (adds : Bool) → h ≤ 6 → lastStep h adds ≤ 50
-unfolding lastStep
-last-small h true b = omega arith
-last-small h false b = omega arith
-
-leaf-count : (counts read : List (List ℕ)) (writes : List ℕ) (h p : ℕ) (es : List Entry) → countsOf counts writes read .inNode 0 p ≡ countIn h 0 p es → asFun writes p ≡ writesBy p es
+leaf-count : (counts read : List (List ℕ)) (writes : List ℕ) (h p : ℕ) (es : List Entry) → countsOf counts writes read .inNode 0 p ≡ countIn h 0 p es → asFun writes p ≡ writesTo p es
 unfolding countsOf levels countIn
 leaf-count counts read writes h p es e = e
 
 -- each row is of a process of 64, and has room for a contention
-module _ (h : ℕ) (st : State) (counts : List (List ℕ)) (writes : List ℕ) (read : List (List ℕ)) (queue turns rows : List ℕ) (l : Listed) (greatest : ℕ → ℕ) (g : Good h st)
-    (L : Ledger h st (keptOf counts writes read queue turns rows l) greatest) where
+module _ (F : Form) (st : State) (counts : List (List ℕ)) (writes : List ℕ) (read : List (List ℕ)) (queue turns rows : List ℕ) (l : Listed) (greatest : ℕ → ℕ) (g : Good F st)
+    (L : Ledger F st (keptOf counts writes read queue turns rows l) greatest) where
   head-small : (i : ℕ) → i < st .operations → asFun rows (5 * i) < 64 * 2 ^ 24
   unfolding keptOf rowNumbers head one
   head-small i b =
       let first = ap (asFun rows) (sym (add-zero (5 * i))) ∙ L .keeps .rows i 0 b (omega arith) in
-      omega (arith, first, at-most-one (st .row i .finished), g .owners i, g .fits i .kind, shown-small h st (L .shown) greatest g (L .most) i b)
+      omega (arith, first, at-most-one (st .row i .finished), g .owners i, g .sorts i, shown-small F st (L .shown) greatest g (L .most) i b)
 
   pub can-close : (m size : ℕ) → m ≡ st .operations → 64 ≤ size → RoomToClose (asFun rows) m size
   unfolding processBy
   can-close m size same all = record { process = λ i b. omega (arith, head-small i (omega arith)); head = λ i b. omega (arith, head-small i (omega arith)) }
 
-module _ (s : List ℕ) (h at : ℕ) (st : State) (vals links : List ℕ) (ps : List Record) (set₀ m : ℕ) (counts : List (List ℕ)) (writes : List ℕ) (read : List (List ℕ)) (queue turns rows greatest : List ℕ) (l : Listed)
-    (A : Agrees h at st vals links ps set₀ m) (L : Ledger h st (keptOf counts writes read queue turns rows l) (asFun greatest)) (p : ℕ) (inside : p < 2 ^ h) (acting : isIn set₀ p ≡ true) (within : at ≤ length s)
-    (short : length s ≤ 65536) (room : RoomFor s h read queue turns rows) (all : 64 ≤ length greatest) where
+module _ (s : List ℕ) (form : Told) (at : ℕ) (st : State) (vals links : List ℕ) (ps : List Record) (set₀ m : ℕ) (counts : List (List ℕ)) (writes : List ℕ) (read : List (List ℕ)) (queue turns rows greatest : List ℕ) (l : Listed)
+    (A : Agrees form at st vals links ps set₀ m) (L : Ledger (formed form) st (keptOf counts writes read queue turns rows l) (asFun greatest)) (p : ℕ) (inside : p < 2 ^ form .height) (acting : isIn set₀ p ≡ true) (within : at ≤ length s)
+    (short : length s ≤ longestRecording) (room : RoomFor s (form .height) read queue turns rows) (all : 64 ≤ length greatest) where
   abbrev k : Kept
   k = keptOf counts writes read queue turns rows l
 
@@ -108,7 +105,7 @@ module _ (s : List ℕ) (h at : ℕ) (st : State) (vals links : List ℕ) (ps : 
   -- the acting process's operation, when it has yet to write its leaf, is neither listed nor waiting
   sizes-less : st .process p .step ≡ 2 → l .rank + l .waiting < st .operations
   sizes-less two =
-      let s = stepping h at st vals links ps set₀ m A p inside acting in
+      let s = stepping form at st vals links ps set₀ m A p inside acting in
       omega (
         arith,
         its-size,
@@ -132,8 +129,8 @@ module _ (s : List ℕ) (h at : ℕ) (st : State) (vals links : List ℕ) (ps : 
   unfolding keptOf
   room-to-write = omega (arith, its-writes, writes-few p (st .history), A .place, within, short)
     where
-      its-writes : asFun writes p ≡ writesBy p (st .history)
-      its-writes = leaf-count counts read writes h p (st .history) (L .keeps .counts .inNode 0 p (omega arith) inside)
+      its-writes : asFun writes p ≡ writesTo p (st .history)
+      its-writes = leaf-count counts read writes (form .height) p (st .history) (L .keeps .counts .inNode 0 p (omega arith) inside)
 
   waiters-known : (w : Waiter) → List·Memᴰ w (queueOf (asFun queue) (asFun turns) (l .waiting)) → w .operation < length queue
   unfolding keptOf
@@ -163,27 +160,27 @@ module _ (s : List ℕ) (h at : ℕ) (st : State) (vals links : List ℕ) (ps : 
       o = st .process p .operation
 
       started : o < st .operations
-      started = A .good .owns p (stepping h at st vals links ps set₀ m A p inside acting .acts)
+      started = A .good .owns p (stepping form at st vals links ps set₀ m A p inside acting .acts)
 
       at-row : RoomToStep (asFun rows) o
       at-row =
           record {
             row = omega (arith, started, A .good .few);
-            head = omega (arith, head-small h st counts writes read queue turns rows l (asFun greatest) (A .good) L o started);
+            head = omega (arith, head-small (formed form) st counts writes read queue turns rows l (asFun greatest) (A .good) L o started);
             steps = omega (arith, L .keeps .rows o 1 started (omega arith), A .good .steps o, A .place, within, short);
             seconds = omega (arith, L .keeps .rows o 4 started (omega arith), A .good .seconds o, A .place, within, short);
           }
 
-  pub can-keep : CanKeep h p (getD ps p idleRecord) writes read queue turns rows greatest l
-  can-keep =
+  pub can-keep : (stored : Bool) → (getD ps p idleRecord .step ≡ 2 → stored ≡ false) → CanKeep form p (getD ps p idleRecord) stored writes read queue turns rows greatest l
+  can-keep stored still =
       record {
-        low = A .good .low;
-        high = A .good .high;
-        process = omega (arith, inside, pow-mono (A .good .high));
+        known = A .known;
+        process = inside;
         reader = omega (arith, inside, room .readers);
         most = omega (arith, inside, pow-mono (A .good .high));
-        operation = omega (arith, its-operation, A .good .owns p (stepping h at st vals links ps set₀ m A p inside acting .acts), places);
-        step = omega (arith, can-step h at st vals links ps set₀ m A p inside acting .last, last-small h (getD ps p idleRecord .adds) (A .good .high));
+        operation = omega (arith, its-operation, A .good .owns p (stepping form at st vals links ps set₀ m A p inside acting .acts), places);
+        last = can-step form at st vals links ps set₀ m A p inside acting .last;
+        still = still;
         written = room-to-write;
         queue = can-list;
         waiting = λ two. omega (arith, sizes-less (sym its-step ∙ two), places);

@@ -3,6 +3,8 @@ use listing::Listed;
 use machine::Process;
 use recording::Cut;
 use recording::Event;
+use recording::FIRST_RECORD;
+use recording::Form;
 ghost use Prim.Native.Nat.{_+_, _*_, _^_, _≤_, _<_};
 ghost use lib.Dec.{eqb};
 ghost use mathlib.Core.Path.{_≡_};
@@ -10,8 +12,10 @@ ghost use mathlib.Core.Bool.{true};
 ghost use lib.ListN.{length};
 ghost use Rattle.sets.specs.Processes.{countBelow, isIn};
 ghost use Rattle.arrays.specs.Arrays.{asFun};
-ghost use Rattle.meaning.specs.Layout.{height, recordsOf};
-ghost use Rattle.meaning.specs.Run.{initial, kindOf, outcome, run as runOf};
+ghost use Rattle.meaning.specs.Shape.{formed};
+ghost use Rattle.meaning.specs.Layout.{longestRecording, highestTree, formOf, firstRecord, recordsOf};
+ghost use Rattle.meaning.specs.Run.{initial, kindOf, mostOperations, outcome, run as runOf};
+ghost use Rattle.climb.specs.Climb.{Known};
 ghost use Rattle.rows.specs.Rows.{withRow, freshNumbers, RoomToClose, closed};
 ghost use Rattle.contention.specs.Greatest.{raised};
 ghost use Rattle.engine.specs.Ends.{addsOf, deltaOf, Refuses, Ends, RoomFor, RoomForAny};
@@ -66,16 +70,16 @@ fn delta_of(e: Event) -> u32
     }
 }
 
-fn try_at(s: &[u8], h: u32, busy: u64, m: u32, at: usize) -> Tried
-    requires { ⌜ h ≤ 6 ⌝ }
-    ensures { λ r. ⌜ Tries (now (s .entry)) h busy m at r ⌝ }
+fn try_at(s: &[u8], f: Form, busy: u64, m: u32, at: usize) -> Tried
+    requires { ⌜ f .height ≤ highestTree ⌝ }
+    ensures { λ r. ⌜ Tries (now (s .entry)) f busy m at r ⌝ }
 {
     match recording::cut_at(s, at) {
         Cut::End => Tried::End,
         Cut::Broken(place) => Tried::Refused(6, place),
         Cut::Found(e, next) => {
             let p = rules::process_of(e);
-            let k = rules::refusal(h, e, sets::has(busy, p), m);
+            let k = rules::refusal(f, e, sets::has(busy, p), m);
             if k != 0 {
                 return Tried::Refused(k, at);
             }
@@ -105,7 +109,7 @@ fn start_row(
     adds: bool,
     busy: u64,
 )
-    requires { ⌜ (m < 1024) × (p < 64) × (asked ≡ true → (5 * m + 5 ≤ length (now rows)) × (64 ≤ length (now greatest))) ⌝ }
+    requires { ⌜ (m < mostOperations) × (p < 64) × (asked ≡ true → (5 * m + 5 ≤ length (now rows)) × (64 ≤ length (now greatest))) ⌝ }
     ensures { λ r. ⌜ (asked ≡ true → (asFun (now (rows .exit)) ≡ withRow (asFun (now (rows .entry))) m (freshNumbers p (kindOf adds))) × (asFun (now (greatest .exit)) ≡ raised p (countBelow 64 (isIn busy)) (asFun (now (greatest .entry))))) ⌝ }
 {
     if asked {
@@ -117,7 +121,7 @@ fn start_row(
 
 // The rows of the operations that are unfinished at the end, where a report is asked for.
 fn close_rows(asked: bool, rows: &mut [u32], greatest: &[u8], m: u32)
-    requires { ⌜ (asked ≡ true → (m ≤ 1024) × (5 * m ≤ length (now rows)) × RoomToClose (asFun (now rows)) m (length (now greatest))) ⌝ }
+    requires { ⌜ (asked ≡ true → (m ≤ mostOperations) × (5 * m ≤ length (now rows)) × RoomToClose (asFun (now rows)) m (length (now greatest))) ⌝ }
     ensures { λ r. ⌜ (asked ≡ true → asFun (now (rows .exit)) ≡ closed (asFun (now (greatest .entry))) m (asFun (now (rows .entry)))) ⌝ }
 {
     if asked {
@@ -128,7 +132,7 @@ fn close_rows(asked: bool, rows: &mut [u32], greatest: &[u8], m: u32)
 // The run over the records of a recording whose header has passed. Where no report is asked for, only what acceptance hangs on is kept.
 pub fn run(
     s: &[u8],
-    h: u32,
+    f: Form,
     asked: bool,
     read: &mut [[u16; 64]],
     queue: &mut [u16],
@@ -136,8 +140,8 @@ pub fn run(
     rows: &mut [u32],
     greatest: &mut [u8],
 ) -> Ended
-    requires { ⌜ (1 ≤ h) × (h ≤ 6) × (6 ≤ length (now s)) × (length (now s) ≤ 65536) × (asked ≡ true → RoomFor (now s) h (now read) (now queue) (now turns) (now rows) × (64 ≤ length (now greatest))) ⌝ }
-    ensures { λ r. ⌜ Ends asked h (length (now (s .entry))) (asFun (now (rows .exit))) r (runOf h initial (recordsOf (now (s .entry)))) ⌝ }
+    requires { ⌜ Known f × (firstRecord ≤ length (now s)) × (length (now s) ≤ longestRecording) × (asked ≡ true → RoomFor (now s) (f .height) (now read) (now queue) (now turns) (now rows) × (64 ≤ length (now greatest))) ⌝ }
+    ensures { λ r. ⌜ Ends asked (formed f) (length (now (s .entry))) (asFun (now (rows .exit))) r (runOf (formed f) (initial (formed f)) (recordsOf (now (s .entry)))) ⌝ }
 {
     let mut vals = [0u32; 128];
     let mut links = [0u64; 64];
@@ -151,9 +155,9 @@ pub fn run(
     };
     let mut busy = sets::empty();
     let mut m: u32 = 0;
-    let mut at: usize = 6;
+    let mut at = FIRST_RECORD;
     loop {
-        match try_at(s, h, busy, m, at) {
+        match try_at(s, f, busy, m, at) {
             Tried::End => {
                 close_rows(asked, rows, greatest, m);
                 let counter = vals[1];
@@ -176,7 +180,7 @@ pub fn run(
             }
             Tried::Step(p, next) => {
                 let r = procs[p];
-                let after = r.next(h, p, &mut vals, &mut links);
+                let after = r.next(f, p, &mut vals, &mut links);
                 listed = keeping::keep_step(
                     asked,
                     &mut counts,
@@ -186,7 +190,7 @@ pub fn run(
                     turns,
                     rows,
                     greatest,
-                    h,
+                    f,
                     p,
                     r,
                     after,
@@ -211,13 +215,13 @@ pub fn alone(
     greatest: &mut [u8],
 ) -> Ended
     requires { ⌜ (asked ≡ true → RoomForAny (now read) (now queue) (now turns) (now rows) (now greatest)) ⌝ }
-    ensures { λ r. ⌜ Ends asked (height (now (s .entry))) (length (now (s .entry))) (asFun (now (rows .exit))) r (outcome (now (s .entry))) ⌝ }
+    ensures { λ r. ⌜ Ends asked (formOf (now (s .entry))) (length (now (s .entry))) (asFun (now (rows .exit))) r (outcome (now (s .entry))) ⌝ }
 {
     let head = rules::header(s);
     if head != 0 {
         return refused(head, 0);
     }
-    if s.len() == 6 {
+    if s.len() == FIRST_RECORD {
         return Ended {
             number: 0,
             place: 0,
@@ -225,5 +229,14 @@ pub fn alone(
             counter: 0,
         };
     }
-    run(s, s[5] as u32, asked, read, queue, turns, rows, greatest)
+    run(
+        s,
+        rules::form_of(s),
+        asked,
+        read,
+        queue,
+        turns,
+        rows,
+        greatest,
+    )
 }

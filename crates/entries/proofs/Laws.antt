@@ -3,15 +3,16 @@
 use Prim.Native.Nat.{ℕ, zero, suc, _≤_}
 use native.Mathlib.Omega.{arith}
 use mathlib.Core.Path.{_≡_, refl, sym, ap, _∙_}
-use mathlib.Core.Bool.{Bool, true, false, cond}
+use mathlib.Core.Bool.{Bool, true, false, cond, false≢true}
 use mathlib.Core.List.{List, [], _∷_}
 use lib.ListN.{length}
 use borrow.Author.Tests.{le-leb}
 use Rattle.recording.specs.Record.{Answer}
 use Rattle.recording.specs.declared.Event.{Event}
 use Rattle.meaning.specs.Refusals.{Refusal, firstOf}
-use Rattle.meaning.specs.Layout.{Records, end, broken, event, headRefusal, height, recordsOf}
-use Rattle.meaning.specs.Run.{State, initial, takeEvent, recordRefusal, Outcome, refused, accepted, unless, run, outcome}
+use Rattle.meaning.specs.Layout.{Records, end, broken, event, unknownShape, headRefusal, shapeOf, formOf, recordsOf}
+use Rattle.meaning.specs.Shape.{Form, highestShape}
+use Rattle.meaning.specs.Run.{State, initial, takeEvent, refusalBy, recordRefusal, Outcome, refused, accepted, unless, run, outcome}
 use Rattle.meaning.specs.Report.{needed, passes, answerWith, reportAnswer, checkWith, checkAnswer}
 use Rattle.entries.specs.Promises.{answerOf, Reports}
 use Rattle.entries.specs.declared.Reply.{Reply}
@@ -43,24 +44,25 @@ check-is-report s buf room = with-room (length buf) (outcome s) room
 
 abbrev Few : List Refusal → Type 0
 Few [] = Unit {0}
-Few (r ∷ rs) = (r .number ≤ 10) × Few rs
+Few (r ∷ rs) = (r .given ≡ true → r .number ≤ 10) × Few rs
 
 first-few : (rs : List Refusal) → Few rs → firstOf rs ≤ 10
 unfolding firstOf
 first-few [] f = omega arith
-first-few (r ∷ rs) f = go (r .given) (first-few rs (f .1))
+first-few (r ∷ rs) f = go (r .given) refl (first-few rs (f .1))
   where
-    go : (b : Bool) → firstOf rs ≤ 10 → cond b (r .number) (firstOf rs) ≤ 10
-    go true later = f .0
-    go false later = later
+    go : (b : Bool) → r .given ≡ b → firstOf rs ≤ 10 → cond b (r .number) (firstOf rs) ≤ 10
+    go true e later = f .0 e
+    go false e later = later
 
-head-few : (s : List ℕ) → headRefusal s ≤ 10
-unfolding headRefusal
-head-few s = first-few _ (omega arith)
+-- no recording of version 1 has an unknown shape
+head-few : (s : List ℕ) → headRefusal highestShape s ≤ 10
+unfolding headRefusal unknownShape shapeOf
+head-few s = first-few _ (λ g. omega arith, (λ g. omega arith, (λ g. omega arith, (λ g. omega arith, (λ g. omega arith, (λ g. absurd (false≢true g), tt))))))
 
-record-few : (h : ℕ) (st : State) (e : Event) → recordRefusal h st e ≤ 10
-unfolding recordRefusal
-record-few h st e = first-few _ (omega arith)
+record-few : (F : Form) (st : State) (e : Event) → recordRefusal F st e ≤ 10
+unfolding recordRefusal refusalBy
+record-few F st e = first-few _ (λ g. omega arith, (λ g. omega arith, (λ g. omega arith, (λ g. omega arith, tt))))
 
 number-of : {a b : Answer} → refused a ≡ refused b → a .number ≡ b .number
 number-of e = cc
@@ -71,15 +73,15 @@ unfolding unless
 unless-number zero at o a few f e = f a e
 unless-number (suc k) at o a few f e = let n : suc k ≡ a .number = number-of e in omega arith
 
-run-number : (h : ℕ) (st : State) (rs : Records) (a : Answer) → run h st rs ≡ refused a → (1 ≤ a .number) × (a .number ≤ 10)
+run-number : (F : Form) (st : State) (rs : Records) (a : Answer) → run F st rs ≡ refused a → (1 ≤ a .number) × (a .number ≤ 10)
 unfolding run
-run-number h st end a e = let z : _≡_ {A = ℕ} 0 1 = cc in omega arith
-run-number h st (broken at) a e = let n : 6 ≡ a .number = number-of e in omega arith
-run-number h st (event at x rs) a e = unless-number (recordRefusal h st x) at _ a (record-few h st x) (λ b d. run-number h (takeEvent h st x) rs b d) e
+run-number F st end a e = let z : _≡_ {A = ℕ} 0 1 = cc in omega arith
+run-number F st (broken at) a e = let n : 6 ≡ a .number = number-of e in omega arith
+run-number F st (event at x rs) a e = unless-number (recordRefusal F st x) at _ a (record-few F st x) (λ b d. run-number F (takeEvent F st x) rs b d) e
 
 pub refusal-number : (s : List ℕ) (a : Answer) → outcome s ≡ refused a → (1 ≤ a .number) × (a .number ≤ 10)
 unfolding outcome
-refusal-number s a e = unless-number (headRefusal s) 0 _ a (head-few s) (λ b d. run-number (height s) initial (recordsOf s) b d) e
+refusal-number s a e = unless-number (headRefusal highestShape s) 0 _ a (head-few s) (λ b d. run-number (formOf s) (initial (formOf s)) (recordsOf s) b d) e
 
 pub refusal-positive : (s : List ℕ) (a : Answer) → outcome s ≡ refused a → 1 ≤ a .number
 refusal-positive s a e = refusal-number s a e .0

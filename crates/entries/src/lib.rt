@@ -1,7 +1,11 @@
 // Check and report, proved equal to the definitions for every byte string.
+use arrays::NUMBERS_IN_ROW;
+use recording::MOST_OPERATIONS;
+use recording::ROW_LENGTH;
 ghost use Prim.Native.Nat.{_^_, _≤_};
 ghost use mathlib.Core.Path.{_≡_};
 ghost use lib.ListN.{length};
+ghost use Rattle.meaning.specs.Shape.{highestShape};
 ghost use Rattle.meaning.specs.Layout.{headRefusal, height};
 ghost use Rattle.meaning.specs.Report.{checkAnswer};
 ghost use Rattle.engine.specs.Ends.{RoomFor};
@@ -47,13 +51,13 @@ fn report_in(
     turns: &mut [u16],
     rows: &mut [u32],
 ) -> Reply
-    requires { ⌜ (headRefusal (now s) ≡ 0) × RoomFor (now s) (height (now s)) (now read) (now queue) (now turns) (now rows) ⌝ }
+    requires { ⌜ (headRefusal highestShape (now s) ≡ 0) × RoomFor (now s) (height (now s)) (now read) (now queue) (now turns) (now rows) ⌝ }
     ensures { λ r. ⌜ Reports (now (s .entry)) (now (out .entry)) (now (out .exit)) r ⌝ }
 {
     let mut greatest = [0u8; 64];
     let e = engine::run(
         s,
-        s[5] as u32,
+        rules::form_of(s),
         true,
         read,
         queue,
@@ -62,7 +66,7 @@ fn report_in(
         &mut greatest,
     );
     let m = e.operations as usize;
-    let needed = 9 + 20 * m;
+    let needed = 9 + ROW_LENGTH * m;
     if e.number == 0 {
         if out.len() < needed {
             let place = needed as u32;
@@ -78,7 +82,7 @@ fn report_in(
 
 // The same with a queue, turns and rows for as many operations as the recording has bytes for: 20 at most, or 1,024.
 fn report_with(s: &[u8], out: &mut [u8], read: &mut [[u16; 64]]) -> Reply
-    requires { ⌜ (headRefusal (now s) ≡ 0) × (2 ^ height (now s) ≤ length (now read)) ⌝ }
+    requires { ⌜ (headRefusal highestShape (now s) ≡ 0) × (2 ^ height (now s) ≤ length (now read)) ⌝ }
     ensures { λ r. ⌜ Reports (now (s .entry)) (now (out .entry)) (now (out .exit)) r ⌝ }
 {
     if s.len() <= 68 {
@@ -87,9 +91,9 @@ fn report_with(s: &[u8], out: &mut [u8], read: &mut [[u16; 64]]) -> Reply
         let mut rows = [0u32; 100];
         return report_in(s, out, read, &mut queue, &mut turns, &mut rows);
     }
-    let mut queue = [0u16; 1024];
-    let mut turns = [0u16; 1024];
-    let mut rows = [0u32; 5120];
+    let mut queue = [0u16; MOST_OPERATIONS as usize];
+    let mut turns = [0u16; MOST_OPERATIONS as usize];
+    let mut rows = [0u32; NUMBERS_IN_ROW * MOST_OPERATIONS as usize];
     report_in(s, out, read, &mut queue, &mut turns, &mut rows)
 }
 

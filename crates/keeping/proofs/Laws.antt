@@ -6,7 +6,10 @@ use mathlib.Core.List.{List}
 use native.Mathlib.Omega.{arith}
 use lib.ListN.{getD}
 use lib.Dec.{eqb}
+use Rattle.recording.specs.declared.Form.{Form as Told}
+use Rattle.meaning.specs.Shape.{Form}
 use Rattle.meaning.specs.Steps.{Process}
+use Rattle.spots.specs.Spot.{spotOf}
 use Rattle.arrays.specs.Arrays.{asFun}
 use Rattle.rows.specs.Rows.{withRow, steppedNumbers, RoomToStep}
 use Rattle.listing.specs.declared.Listed.{Listed}
@@ -17,15 +20,15 @@ use Rattle.placing.proofs.Laws.{kept-is, addition-beside}
 use Rattle.keeping.specs.Keeping.{CanKeep}
 
 -- a step that can be kept can be placed
-pub can-place : {h p : ℕ} {r : Record} {writes : List ℕ} {reads : List (List ℕ)} {waiters turns numbers greatest : List ℕ} {l : Listed}
-    → CanKeep h p r writes reads waiters turns numbers greatest l → CanPlace h p r writes reads waiters turns numbers l
+pub can-place : {f : Told} {p : ℕ} {r : Record} {stored : Bool} {writes : List ℕ} {reads : List (List ℕ)} {waiters turns numbers greatest : List ℕ} {l : Listed}
+    → CanKeep f p r stored writes reads waiters turns numbers greatest l → CanPlace f p r stored writes reads waiters turns numbers l
 can-place can =
     record {
-      low = can .low;
-      high = can .high;
+      known = can .known;
       process = can .process;
       reader = can .reader;
-      step = can .step;
+      last = can .last;
+      still = can .still;
       written = can .written;
       queue = can .queue;
       operation = can .operation;
@@ -44,13 +47,13 @@ room-stays {f} {i} g room beside =
 
 -- after an addition's listing there is room in its row as before
 pub addition-room : (counts counts′ read read′ : List (List ℕ)) (written written′ queue queue′ turns turns′ rows rows′ : List ℕ)
-    (listed listed′ : Listed) (h p : ℕ) (r : Process) (stored : Bool) {i : ℕ}
+    (listed listed′ : Listed) (F : Form) (p : ℕ) (r : Process) (stored : Bool) {i : ℕ}
     → keptOf counts′ written′ read′ queue′ turns′ rows′ listed′
-    ≡ additionPlaced h p r stored (keptOf counts written read queue turns rows listed) → RoomToStep (asFun rows) i → RoomToStep (asFun rows′) i
+    ≡ additionPlaced F p r stored (keptOf counts written read queue turns rows listed) → RoomToStep (asFun rows) i → RoomToStep (asFun rows′) i
 unfolding keptOf
-addition-room counts counts′ read read′ written written′ queue queue′ turns turns′ rows rows′ listed listed′ h p r stored e room =
+addition-room counts counts′ read read′ written written′ queue queue′ turns turns′ rows rows′ listed listed′ F p r stored e room =
     let k : Kept = keptOf counts written read queue turns rows listed in
-    room-stays (asFun rows′) room (λ j n. ap (λ (x : Kept). x .rows j) e ∙ addition-beside h p r stored k j n)
+    room-stays (asFun rows′) room (λ j n. ap (λ (x : Kept). x .rows j) e ∙ addition-beside F p r stored k j n)
 
 -- one more step in a row, with the greatest count of process p
 pub row-steps : (counts read : List (List ℕ)) (written queue turns rows rows′ greatest : List ℕ) (listed : Listed) (p i : ℕ) (finished : Bool) (answer : ℕ)
@@ -61,18 +64,18 @@ row-steps counts read written queue turns rows rows′ greatest listed p i finis
 
 -- ---- a step: its listing, and one more step in the operation's row
 
-module _ (h p : ℕ) (r r′ : Process) (stored : Bool) (contention : ℕ) (k : Kept) where
+module _ (F : Form) (p : ℕ) (r r′ : Process) (stored : Bool) (contention : ℕ) (k : Kept) where
   pub addition-step : r .adds ≡ true
-      → keptStep h p r r′ stored contention k ≡ rowThen (r .operation) (eqb (r′ .step) 0) contention 0 (secondLink (r .step)) (additionPlaced h p r stored k)
+      → keptStep F p r r′ stored contention k ≡ rowThen (r .operation) (eqb (r′ .step) 0) contention 0 (secondLink (spotOf F p (r .step))) (additionPlaced F p r stored k)
   unfolding keptStep additionStep additionPlaced
   addition-step e = rw e
 
   pub read-step : r .adds ≡ false
-      → keptStep h p r r′ stored contention k ≡ rowThen (r .operation) (eqb (r′ .step) 0) contention (r′ .seen) false (readPlaced (r .operation) k)
+      → keptStep F p r r′ stored contention k ≡ rowThen (r .operation) (eqb (r′ .step) 0) contention (r′ .seen) false (readPlaced (r .operation) k)
   unfolding keptStep readStep readPlaced
   read-step e = rw e
 
 -- whatever the arrays are, what is kept after the step is one
-pub one-outcome : (h p : ℕ) (r r′ : Process) (stored : Bool) (contention : ℕ) (k : Kept) {a b : Kept}
-    → a ≡ keptStep h p r r′ stored contention k → b ≡ keptStep h p r r′ stored contention k → a ≡ b
-one-outcome h p r r′ stored contention k x y = x ∙ sym y
+pub one-outcome : (F : Form) (p : ℕ) (r r′ : Process) (stored : Bool) (contention : ℕ) (k : Kept) {a b : Kept}
+    → a ≡ keptStep F p r r′ stored contention k → b ≡ keptStep F p r r′ stored contention k → a ≡ b
+one-outcome F p r r′ stored contention k x y = x ∙ sym y

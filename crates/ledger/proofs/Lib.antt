@@ -1,15 +1,5 @@
-pub mod Turns
-pub mod Did
-pub mod Good
 pub mod Under
 pub mod Counted
-pub mod Kept
-pub mod Waiters
-pub mod Listing
 pub mod Numbers
-pub mod Placed
 pub mod Keeps
 pub mod Total
-pub mod StepCount
-pub mod Held
-pub mod Alone

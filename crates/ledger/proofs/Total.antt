@@ -11,18 +11,19 @@ use lib.Dec.{eqb}
 use borrow.Author.Tests.{eq-eqb}
 use Rattle.sets.specs.Processes.{countBelow}
 use Rattle.sets.proofs.Laws.{count-differ, count-same, count-le}
+use Rattle.meaning.specs.Shape.{Form}
 use Rattle.meaning.specs.Access.{Access, readsRoot, isLeafWrite, isRootRead}
-use Rattle.meaning.specs.Steps.{Process}
+use Rattle.meaning.specs.Steps.{Memory, Process}
 use Rattle.meaning.specs.Run.{Entry, State, initial, start, takeStep}
-use Rattle.taken.specs.CountIn.{Waiter}
+use Rattle.taken.specs.CountIn.{Waiter, isCounted}
+use Rattle.spots.specs.Spot.{spotOf}
 use Rattle.counts.specs.Counts.{Counts, countsAfter}
-use Rattle.listing.specs.Queue.{isCounted}
-use Rattle.listing.proofs.Laws.{length-keep}
+use Rattle.taken.proofs.Lists.{length-keep}
 use Rattle.ledger.specs.Kept.{Kept, atRoot, secondLink, queueThen, listThen, waitThen, rowThen, readStep, additionStep, keptStep, keptStart}
-use Rattle.ledger.proofs.Turns.{Turn, root, leaf, write, link, leftward, rightward, store, reads-the-root, reads-no-root}
-use Rattle.ledger.proofs.Did.{did, did-other, did-not}
-use Rattle.ledger.proofs.Good.{Good, Stepping, accessBy, effectBy, recordAfter, entryBy, turns, false-true}
-use Rattle.ledger.proofs.Keeps.{Keeps, write-case}
+use Rattle.history.proofs.Turns.{Turn, root, leaf, write, link, group, store, reads-the-root, reads-no-root, false-true}
+use Rattle.history.proofs.Did.{did, did-other, did-not}
+use Rattle.history.proofs.Good.{Good, Stepping, accessBy, effectBy, recordAfter, entryBy, turns}
+use Rattle.ledger.proofs.Keeps.{write-case}
 
 -- a leaf write or a root read
 abbrev pub acts : Access → Bool
@@ -40,7 +41,7 @@ total-few st k t = omega (arith, t .total, count-le (st .operations) (λ i. did 
 
 -- ---- what a step adds
 
-module _ (h p : ℕ) (r r′ : Process) (stored : Bool) (contention : ℕ) (k : Kept) where
+module _ (F : Form) (p : ℕ) (r r′ : Process) (stored : Bool) (contention : ℕ) (k : Kept) where
   list-size : (f : ℕ → ℕ) (ws : List Waiter) (c : Counts) → size (listThen f ws c k) ≡ k .listed + length ws
   unfolding size listThen
   list-size f ws c = omega (arith, length-keep (isCounted f) ws)
@@ -54,7 +55,7 @@ module _ (h p : ℕ) (r r′ : Process) (stored : Bool) (contention : ℕ) (k : 
   queue-size = length-append (k .queue) _ ∙ ap (λ (n : ℕ). length (k .queue) + n) (go (eqb (r .step) 2))
     where
       its : Waiter
-      its = record { operation = r .operation; process = p; turn = k .counts .inNode 0 p }
+      its = record { operation = r .operation; component = p; turn = k .counts .inNode 0 p }
 
       go : (t : Bool) → length (cond t (its ∷ []) []) ≡ cond t 1 0
       go true = refl
@@ -68,15 +69,15 @@ module _ (h p : ℕ) (r r′ : Process) (stored : Bool) (contention : ℕ) (k : 
   unfolding size
   size-more ws n e = omega arith
 
-  addition-size : size (additionStep h p r r′ stored contention k) ≡ size k + cond (eqb (r .step) 2) 1 0
+  addition-size : size (additionStep F p r r′ stored contention k) ≡ size k + cond (eqb (r .step) 2) 1 0
   unfolding additionStep
-  addition-size = row-size (r .operation) (eqb (r′ .step) 0) 0 (secondLink (r .step)) _ ∙ go (atRoot h (r .step) stored) ∙ omega-sum
+  addition-size = row-size (r .operation) (eqb (r′ .step) 0) 0 (secondLink (spotOf F p (r .step))) _ ∙ go (atRoot F (spotOf F p (r .step)) stored) ∙ omega-sum
     where
       c : Counts
-      c = countsAfter p (r .step) stored (k .counts)
+      c = countsAfter F p (r .step) (spotOf F p (r .step)) stored (k .counts)
 
-      go : (t : Bool) → size (cond t (listThen (c .inNode h) (queueThen p r k) c k) (waitThen (queueThen p r k) c k)) ≡ k .listed + length (queueThen p r k)
-      go true = list-size (c .inNode h) (queueThen p r k) c
+      go : (t : Bool) → size (cond t (listThen (c .inNode (F .height)) (queueThen p r k) c k) (waitThen (queueThen p r k) c k)) ≡ k .listed + length (queueThen p r k)
+      go true = list-size (c .inNode (F .height)) (queueThen p r k) c
       go false = wait-size (queueThen p r k) c
 
       omega-sum : k .listed + length (queueThen p r k) ≡ size k + cond (eqb (r .step) 2) 1 0
@@ -130,60 +131,59 @@ unfolding isLeafWrite isRootRead
 root-acts = refl
 
 -- only a read, or an addition at step 2, acts
-acts-early : (h p : ℕ) (r : Process) {a : Access} → Turn h p r a → acts a ≡ true → r .adds ≡ true → r .step ≤ 2
+acts-early : {F : Form} {p : ℕ} {r : Process} {m : Memory} {t : ℕ} {a : Access} → Turn F p r m t a → acts a ≡ true → r .adds ≡ true → r .step ≤ 2
 unfolding isLeafWrite isRootRead
-acts-early h p r (root e w) k d = omega arith
-acts-early h p r (leaf e w) k d = omega arith
-acts-early h p r (write e w) k d = omega arith
-acts-early h p r (link e c w) k d = absurd (false-true k)
-acts-early h p r (leftward e c w) k d = absurd (false-true k)
-acts-early h p r (rightward e c w) k d = absurd (false-true k)
-acts-early h p r (store e c w) k d = absurd (false-true k)
+acts-early (root e w z) k d = omega arith
+acts-early (leaf e w z) k d = omega arith
+acts-early (write e w z n) k d = omega arith
+acts-early (link e σ at w n) k d = absurd (false-true k)
+acts-early (group e σ at i b w n) k d = absurd (false-true k)
+acts-early (store e σ at w n) k d = absurd (false-true k)
 
-module _ (h p : ℕ) (st : State) (s : Stepping h p st) (shown : ℕ → ℕ) (k : Kept) (K : Keeps h st shown k) (t : Total st k) (contention : ℕ) where
+module _ (F : Form) (p : ℕ) (st : State) (s : Stepping F p st) (k : Kept) (t : Total st k) (contention : ℕ) where
   abbrev kept′ : Kept
-  kept′ = keptStep h p (st .process p) (recordAfter h p st) (effectBy h p st .stored) contention k
+  kept′ = keptStep F p (st .process p) (recordAfter F p st) (effectBy F p st .stored) contention k
 
-  kept-size : size kept′ ≡ size k + cond (acts (accessBy h p st)) 1 0
+  kept-size : size kept′ ≡ size k + cond (acts (accessBy F p st)) 1 0
   unfolding keptStep
   kept-size = go (st .process p .adds) refl
     where
       go : (b : Bool) → st .process p .adds ≡ b
-          → size (cond b (additionStep h p (st .process p) (recordAfter h p st) (effectBy h p st .stored) contention k) (readStep (st .process p) (recordAfter h p st) contention k))
-          ≡ size k + cond (acts (accessBy h p st)) 1 0
+          → size (cond b (additionStep F p (st .process p) (recordAfter F p st) (effectBy F p st .stored) contention k) (readStep (st .process p) (recordAfter F p st) contention k))
+          ≡ size k + cond (acts (accessBy F p st)) 1 0
       go true d =
-          addition-size h p (st .process p) (recordAfter h p st) (effectBy h p st .stored) contention k
-          ∙ ap (λ (b : Bool). size k + cond b 1 0) (write-case h p st s shown k K (turns h p st s) d ∙ sym (or-none _ _ (reads-no-root (turns h p st s) d)))
+          addition-size F p (st .process p) (recordAfter F p st) (effectBy F p st .stored) contention k
+          ∙ ap (λ (b : Bool). size k + cond b 1 0) (write-case F p st s (turns F p st s) d ∙ sym (or-none _ _ (reads-no-root (turns F p st s) d)))
       go false d =
-          read-size h p (st .process p) (recordAfter h p st) (effectBy h p st .stored) contention k
-          ∙ ap (λ (b : Bool). size k + cond b 1 0) (sym (ap acts (reads-the-root (turns h p st s) d) ∙ root-acts))
+          read-size F p (st .process p) (recordAfter F p st) (effectBy F p st .stored) contention k
+          ∙ ap (λ (b : Bool). size k + cond b 1 0) (sym (ap acts (reads-the-root (turns F p st s) d) ∙ root-acts))
 
-  acted-step : countBelow (st .operations) (λ i. did acts i (entryBy h p st ∷ st .history)) ≡ countBelow (st .operations) (λ i. did acts i (st .history)) + cond (acts (accessBy h p st)) 1 0
-  acted-step = go (acts (accessBy h p st)) refl
+  acted-step : countBelow (st .operations) (λ i. did acts i (entryBy F p st ∷ st .history)) ≡ countBelow (st .operations) (λ i. did acts i (st .history)) + cond (acts (accessBy F p st)) 1 0
+  acted-step = go (acts (accessBy F p st)) refl
     where
-      go : (b : Bool) → acts (accessBy h p st) ≡ b
-          → countBelow (st .operations) (λ i. did acts i (entryBy h p st ∷ st .history)) ≡ countBelow (st .operations) (λ i. did acts i (st .history)) + cond b 1 0
+      go : (b : Bool) → acts (accessBy F p st) ≡ b
+          → countBelow (st .operations) (λ i. did acts i (entryBy F p st ∷ st .history)) ≡ countBelow (st .operations) (λ i. did acts i (st .history)) + cond b 1 0
       go true d =
-          count-differ (st .operations) (st .process p .operation) (λ i. did acts i (st .history)) (λ i. did acts i (entryBy h p st ∷ st .history)) (s .good .owns p (s .acts))
-          (not-acted (st .process p .operation) (st .history) (s .good .fresh p (s .acts) (acts-early h p (st .process p) (turns h p st s) d)) (s .good .unread p (s .acts)))
-          (acted (st .process p .operation) (entryBy h p st) (st .history) d refl)
-          (λ q n. did-other acts q (entryBy h p st) (st .history) n) ∙ omega arith
-      go false d = count-same (st .operations) _ _ (λ q b. did-not acts q (entryBy h p st) (st .history) d) ∙ sym (add-zero _)
+          count-differ (st .operations) (st .process p .operation) (λ i. did acts i (st .history)) (λ i. did acts i (entryBy F p st ∷ st .history)) (s .good .owns p (s .acts))
+          (not-acted (st .process p .operation) (st .history) (s .good .fresh p (s .acts) (acts-early (turns F p st s) d)) (s .good .unread p (s .acts)))
+          (acted (st .process p .operation) (entryBy F p st) (st .history) d refl)
+          (λ q n. did-other acts q (entryBy F p st) (st .history) n) ∙ omega arith
+      go false d = count-same (st .operations) _ _ (λ q b. did-not acts q (entryBy F p st) (st .history) d) ∙ sym (add-zero _)
 
-  pub total-step : Total (takeStep h p st) kept′
+  pub total-step : Total (takeStep F p st) kept′
   unfolding takeStep
-  total-step = record { total = kept-size ∙ ap (λ (n : ℕ). n + cond (acts (accessBy h p st)) 1 0) (t .total) ∙ sym acted-step }
+  total-step = record { total = kept-size ∙ ap (λ (n : ℕ). n + cond (acts (accessBy F p st)) 1 0) (t .total) ∙ sym acted-step }
 
 -- ---- a start, and the beginning
 
-pub total-start : (h p : ℕ) (adds : Bool) (delta : ℕ) (st : State) (g : Good h st) (k : Kept) → Total st k → (kind : ℕ)
-    → Total (start h p adds delta st) (keptStart (st .operations) p kind k)
+pub total-start : (F : Form) (p : ℕ) (adds : Bool) (delta : ℕ) (st : State) (g : Good F st) (k : Kept) → Total st k → (kind : ℕ)
+    → Total (start F p adds delta st) (keptStart (st .operations) p kind k)
 unfolding start keptStart size countBelow isLeafWrite isRootRead
-total-start h p adds delta st g k t kind =
+total-start F p adds delta st g k t kind =
     record {
       total =
           t .total ∙ count-same (st .operations) _ _ (λ i b. sym (did-not acts i _ (st .history) refl))
-          ∙ sym (ap (λ (b : Bool). countBelow (st .operations) (λ i. did acts i (start h p adds delta st .history)) + cond b 1 0) (did-not acts (st .operations) _ (st .history) refl ∙ unknown) ∙ add-zero _);
+          ∙ sym (ap (λ (b : Bool). countBelow (st .operations) (λ i. did acts i (start F p adds delta st .history)) + cond b 1 0) (did-not acts (st .operations) _ (st .history) refl ∙ unknown) ∙ add-zero _);
     }
   where
     unknown : did acts (st .operations) (st .history) ≡ false
@@ -193,6 +193,6 @@ total-start h p adds delta st g k t kind =
         go true d = absurd (omega (arith, g .known acts (st .operations) d))
         go false d = refl
 
-pub total-initial : (k : Kept) → k .queue ≡ [] → k .listed ≡ 0 → Total initial k
+pub total-initial : (F : Form) (k : Kept) → k .queue ≡ [] → k .listed ≡ 0 → Total (initial F) k
 unfolding initial size countBelow
-total-initial k empty none = record { total = ap₂ (λ (n : ℕ) (l : List Waiter). n + length l) none empty }
+total-initial F k empty none = record { total = ap₂ (λ (n : ℕ) (l : List Waiter). n + length l) none empty }

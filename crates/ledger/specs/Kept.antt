@@ -1,16 +1,18 @@
 -- What the replay keeps beside memory and process records: the counts, the queue of additions that wait to be listed, how many operations
 -- are listed, and the rows; and what one step and one start make of it.
-use Prim.Native.Nat.{ℕ, suc, _+_, _-_, _*_, _%_}
+use Prim.Native.Nat.{ℕ, suc, _+_}
 use mathlib.Core.Bool.{Bool, false, not, cond, _&&_}
 use mathlib.Core.List.{List, [], _∷_, _++_}
 use lib.ListN.{length}
-use lib.Dec.{leb, eqb}
+use lib.Dec.{eqb}
+use Rattle.meaning.specs.Shape.{Form}
 use Rattle.meaning.specs.Steps.{Process}
 use Rattle.meaning.specs.TakenIn.{keep}
-use Rattle.taken.specs.CountIn.{Waiter}
+use Rattle.taken.specs.CountIn.{Waiter, isCounted, operationsOf}
+use Rattle.spots.specs.Spot.{Spot, spotOf}
 use Rattle.counts.specs.Counts.{Counts, countsAfter}
 use Rattle.rows.specs.Rows.{withRow, freshNumbers, steppedNumbers}
-use Rattle.listing.specs.Queue.{isCounted, ranked, operationsOf}
+use Rattle.listing.specs.Queue.{ranked}
 
 pub record Kept : Type 0 where
   pub counts : Counts
@@ -19,21 +21,21 @@ pub record Kept : Type 0 where
   pub rows : ℕ → ℕ
 
 -- the counts after a step of the process whose record was r
-unfoldable pub countsThen : ℕ → Process → Bool → Counts → Counts
-countsThen p r stored c = cond (r .adds) (countsAfter p (r .step) stored c) c
+unfoldable pub countsThen : Form → ℕ → Process → Bool → Counts → Counts
+countsThen F p r stored c = cond (r .adds) (countsAfter F p (r .step) (spotOf F p (r .step)) stored c) c
 
--- whether the step s, an SC that succeeded, was at node 1
-unfoldable pub atRoot : ℕ → ℕ → Bool → Bool
-atRoot h s stored = stored && leb (8 * h) (s + 5)
+-- whether an SC at that spot, if it succeeded, was at node 1
+unfoldable pub atRoot : Form → Spot → Bool → Bool
+atRoot F σ stored = stored && eqb (suc (σ .level)) (F .height)
 
--- whether the step s is the LL of a second attempt
-unfoldable pub secondLink : ℕ → Bool
-secondLink s = leb 3 s && eqb ((s - 3) % 8) 4
+-- whether the access at a spot is the LL of a second attempt; the steps before the climb have the spot of its first
+unfoldable pub secondLink : Spot → Bool
+secondLink σ = σ .second && eqb (σ .position) 0
 
--- a leaf write joins the queue with its turn
+-- a leaf write joins the queue with its turn: process p writes the leaf of component p
 unfoldable pub queueThen : ℕ → Process → Kept → List Waiter
 queueThen p r k =
-    k .queue ++ cond (eqb (r .step) 2) (record { operation = r .operation; process = p; turn = k .counts .inNode 0 p } ∷ []) []
+    k .queue ++ cond (eqb (r .step) 2) (record { operation = r .operation; component = p; turn = k .counts .inNode 0 p } ∷ []) []
 
 -- listing, by the counts at node 1: those that are counted get their ranks, the others wait on
 unfoldable pub listThen : (ℕ → ℕ) → List Waiter → Counts → Kept → Kept
@@ -64,16 +66,17 @@ readStep r r′ contention k =
     rowThen (r .operation) (eqb (r′ .step) 0) contention (r′ .seen) false
     (record { counts = k .counts; queue = k .queue; listed = suc (k .listed); rows = ranked (r .operation ∷ []) (k .listed) (k .rows) })
 
-unfoldable pub additionStep : ℕ → ℕ → Process → Process → Bool → ℕ → Kept → Kept
-additionStep h p r r′ stored contention k =
-    let c : Counts = countsAfter p (r .step) stored (k .counts) in
+unfoldable pub additionStep : Form → ℕ → Process → Process → Bool → ℕ → Kept → Kept
+additionStep F p r r′ stored contention k =
+    let σ : Spot = spotOf F p (r .step) in
+    let c : Counts = countsAfter F p (r .step) σ stored (k .counts) in
     let ws : List Waiter = queueThen p r k in
-    rowThen (r .operation) (eqb (r′ .step) 0) contention 0 (secondLink (r .step))
-    (cond (atRoot h (r .step) stored) (listThen (c .inNode h) ws c k) (waitThen ws c k))
+    rowThen (r .operation) (eqb (r′ .step) 0) contention 0 (secondLink σ)
+    (cond (atRoot F σ stored) (listThen (c .inNode (F .height)) ws c k) (waitThen ws c k))
 
 -- what a step of process p, whose record was r and is r′, makes of what is kept; contention is that of its operation so far
-unfoldable pub keptStep : ℕ → ℕ → Process → Process → Bool → ℕ → Kept → Kept
-keptStep h p r r′ stored contention k = cond (r .adds) (additionStep h p r r′ stored contention k) (readStep r r′ contention k)
+unfoldable pub keptStep : Form → ℕ → Process → Process → Bool → ℕ → Kept → Kept
+keptStep F p r r′ stored contention k = cond (r .adds) (additionStep F p r r′ stored contention k) (readStep r r′ contention k)
 
 -- a start adds a row
 unfoldable pub keptStart : ℕ → ℕ → ℕ → Kept → Kept

@@ -5,6 +5,7 @@ use mathlib.Core.List.{List, [], _∷_, _++_}
 use lib.ListN.{getD}
 use lib.Dec.{eqb}
 use Rattle.recording.specs.Numbers.{numberAt}
+use Rattle.meaning.specs.Report.{rowLength}
 use Rattle.meaning.specs.Printed.{text, decimal, line}
 
 unfoldable pub kindText : ℕ → List ℕ
@@ -38,15 +39,15 @@ numbersText b at = field (numberAt b (at + 4)) ++ field (numberAt b (at + 8)) ++
 -- the lines of the first k rows
 unfoldable pub rowTexts : List ℕ → ℕ → List ℕ
 rowTexts b zero = []
-rowTexts b (suc k) = rowTexts b k ++ rowText b (9 + 20 * k)
+rowTexts b (suc k) = rowTexts b k ++ rowText b (9 + rowLength * k)
 
 -- the line before them
 unfoldable pub firstText : ℕ → ℕ → List ℕ
 firstText operations counter = line (text "operations" ∷ decimal operations ∷ text "counter" ∷ decimal counter ∷ [])
 
--- the whole text; bytes 1 to 4 are 4 + 20m
+-- the whole text; bytes 1 to 4 tell how many rows there are
 unfoldable pub reportText : List ℕ → List ℕ
-reportText b = firstText (numberAt b 1 / 20) (numberAt b 5) ++ rowTexts b (numberAt b 1 / 20)
+reportText b = firstText (numberAt b 1 / rowLength) (numberAt b 5) ++ rowTexts b (numberAt b 1 / rowLength)
 
 unfoldable pub refusalText : ℕ → ℕ → List ℕ
 refusalText number place = line (text "refused" ∷ decimal number ∷ decimal place ∷ [])

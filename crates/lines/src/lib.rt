@@ -1,14 +1,22 @@
 // The text of a report, and of a refusal, laid at the front of a buffer.
+use recording::LONGEST_REPORT;
+use recording::MOST_OPERATIONS;
+use recording::ROW_LENGTH;
 use recording::number;
 ghost use Prim.Native.Nat.{_+_, _*_, _/_, _≤_};
 ghost use mathlib.Core.Path.{_≡_};
 ghost use mathlib.Core.List.{[], _∷_, _++_};
 ghost use lib.ListN.{length};
 ghost use Rattle.recording.specs.Numbers.{numberAt};
+ghost use Rattle.meaning.specs.Run.{mostOperations};
+ghost use Rattle.meaning.specs.Report.{rowLength, longestReport};
 ghost use Rattle.meaning.specs.Printed.{text, decimal, line, headingOf};
 ghost use Rattle.lines.specs.Text.{kindText, field, bytesText, numbersText, rowText, rowTexts, firstText, reportText, refusalText};
 ghost use Rattle.laying.specs.Lays.{Lays};
-ghost use Rattle.lines.specs.Room.{Room};
+ghost use Rattle.lines.specs.Room.{Room, longestText};
+
+// The bytes of the longest text: the first line has 41 at most, each other one 82.
+pub const LONGEST_TEXT: usize = 41 + 82 * MOST_OPERATIONS as usize;
 
 fn wide(x: u8) -> u32
     ensures { λ r. ⌜ r ≡ x ⌝ }
@@ -17,15 +25,15 @@ fn wide(x: u8) -> u32
 }
 
 // The number in four bytes of a report from a place on.
-fn number_at(report: &[u8; 20489], at: usize) -> u32
-    requires { ⌜ at + 4 ≤ 20489 ⌝ }
+fn number_at(report: &[u8; LONGEST_REPORT], at: usize) -> u32
+    requires { ⌜ at + 4 ≤ longestReport ⌝ }
     ensures { λ r. ⌜ r ≡ numberAt (now (report .entry)) at ⌝ }
 {
     number(report[at], report[at + 1], report[at + 2], report[at + 3])
 }
 
 // One byte at a place; the place after it.
-fn lay_byte(out: &mut [u8; 84009], at: usize, x: u8) -> usize
+fn lay_byte(out: &mut [u8; LONGEST_TEXT], at: usize, x: u8) -> usize
     requires { ⌜ Room (now out) at 1 ⌝ }
     ensures { λ r. ⌜ Lays (now (out .entry)) at (x ∷ []) (now (out .exit)) r ⌝ }
 {
@@ -33,7 +41,7 @@ fn lay_byte(out: &mut [u8; 84009], at: usize, x: u8) -> usize
     at + 1
 }
 
-fn lay_word(out: &mut [u8; 84009], at: usize, word: &[u8]) -> usize
+fn lay_word(out: &mut [u8; LONGEST_TEXT], at: usize, word: &[u8]) -> usize
     requires { ⌜ Room (now out) at (length (now word)) ⌝ }
     ensures { λ r. ⌜ Lays (now (out .entry)) at (now (word .entry)) (now (out .exit)) r ⌝ }
 {
@@ -44,7 +52,7 @@ fn lay_word(out: &mut [u8; 84009], at: usize, word: &[u8]) -> usize
     next
 }
 
-fn lay_decimal(out: &mut [u8; 84009], at: usize, n: u32) -> usize
+fn lay_decimal(out: &mut [u8; LONGEST_TEXT], at: usize, n: u32) -> usize
     requires { ⌜ Room (now out) at (length (decimal n)) ⌝ }
     ensures { λ r. ⌜ Lays (now (out .entry)) at (decimal n) (now (out .exit)) r ⌝ }
     ensures { λ r. ⌜ r ≤ at + 10 ⌝ }
@@ -56,7 +64,7 @@ fn lay_decimal(out: &mut [u8; 84009], at: usize, n: u32) -> usize
     lay_byte(out, last, 48 + (n % 10) as u8)
 }
 
-fn end_line(out: &mut [u8; 84009], at: usize) -> usize
+fn end_line(out: &mut [u8; LONGEST_TEXT], at: usize) -> usize
     requires { ⌜ Room (now out) at 1 ⌝ }
     ensures { λ r. ⌜ Lays (now (out .entry)) at (text "\n") (now (out .exit)) r ⌝ }
     ensures { λ r. ⌜ r ≤ at + 1 ⌝ }
@@ -65,7 +73,7 @@ fn end_line(out: &mut [u8; 84009], at: usize) -> usize
 }
 
 // A space and a number.
-fn lay_field(out: &mut [u8; 84009], at: usize, n: u32) -> usize
+fn lay_field(out: &mut [u8; LONGEST_TEXT], at: usize, n: u32) -> usize
     requires { ⌜ Room (now out) at 11 ⌝ }
     ensures { λ r. ⌜ Lays (now (out .entry)) at (field n) (now (out .exit)) r ⌝ }
     ensures { λ r. ⌜ r ≤ at + 11 ⌝ }
@@ -75,7 +83,7 @@ fn lay_field(out: &mut [u8; 84009], at: usize, n: u32) -> usize
 }
 
 // A space and the kind's word.
-fn lay_kind(out: &mut [u8; 84009], at: usize, kind: u8) -> usize
+fn lay_kind(out: &mut [u8; LONGEST_TEXT], at: usize, kind: u8) -> usize
     requires { ⌜ Room (now out) at 5 ⌝ }
     ensures { λ r. ⌜ Lays (now (out .entry)) at (text " " ++ kindText kind) (now (out .exit)) r ⌝ }
     ensures { λ r. ⌜ r ≤ at + 5 ⌝ }
@@ -87,9 +95,14 @@ fn lay_kind(out: &mut [u8; 84009], at: usize, kind: u8) -> usize
 }
 
 // The first four columns of the row that begins at a place of the report: a byte each.
-fn lay_bytes(out: &mut [u8; 84009], at: usize, report: &[u8; 20489], row: usize) -> usize
+fn lay_bytes(
+    out: &mut [u8; LONGEST_TEXT],
+    at: usize,
+    report: &[u8; LONGEST_REPORT],
+    row: usize,
+) -> usize
     requires { ⌜ Room (now out) at 37 ⌝ }
-    requires { ⌜ row + 4 ≤ 20489 ⌝ }
+    requires { ⌜ row + 4 ≤ longestReport ⌝ }
     ensures { λ r. ⌜ Lays (now (out .entry)) at (bytesText (now (report .entry)) row) (now (out .exit)) r ⌝ }
     ensures { λ r. ⌜ r ≤ at + 37 ⌝ }
 {
@@ -100,9 +113,14 @@ fn lay_bytes(out: &mut [u8; 84009], at: usize, report: &[u8; 20489], row: usize)
 }
 
 // Its other four columns, numbers, and the end of its line.
-fn lay_numbers(out: &mut [u8; 84009], at: usize, report: &[u8; 20489], row: usize) -> usize
+fn lay_numbers(
+    out: &mut [u8; LONGEST_TEXT],
+    at: usize,
+    report: &[u8; LONGEST_REPORT],
+    row: usize,
+) -> usize
     requires { ⌜ Room (now out) at 45 ⌝ }
-    requires { ⌜ row + 20 ≤ 20489 ⌝ }
+    requires { ⌜ row + rowLength ≤ longestReport ⌝ }
     ensures { λ r. ⌜ Lays (now (out .entry)) at (numbersText (now (report .entry)) row) (now (out .exit)) r ⌝ }
     ensures { λ r. ⌜ r ≤ at + 45 ⌝ }
 {
@@ -114,9 +132,14 @@ fn lay_numbers(out: &mut [u8; 84009], at: usize, report: &[u8; 20489], row: usiz
 }
 
 // The line of the row that begins at a place of the report.
-fn lay_row(out: &mut [u8; 84009], at: usize, report: &[u8; 20489], row: usize) -> usize
+fn lay_row(
+    out: &mut [u8; LONGEST_TEXT],
+    at: usize,
+    report: &[u8; LONGEST_REPORT],
+    row: usize,
+) -> usize
     requires { ⌜ Room (now out) at 82 ⌝ }
-    requires { ⌜ row + 20 ≤ 20489 ⌝ }
+    requires { ⌜ row + rowLength ≤ longestReport ⌝ }
     ensures { λ r. ⌜ Lays (now (out .entry)) at (rowText (now (report .entry)) row) (now (out .exit)) r ⌝ }
     ensures { λ r. ⌜ r ≤ at + 82 ⌝ }
 {
@@ -125,21 +148,26 @@ fn lay_row(out: &mut [u8; 84009], at: usize, report: &[u8; 20489], row: usize) -
 }
 
 // The lines of the first m rows of the report.
-fn lay_rows(out: &mut [u8; 84009], at: usize, report: &[u8; 20489], m: usize) -> usize
+fn lay_rows(
+    out: &mut [u8; LONGEST_TEXT],
+    at: usize,
+    report: &[u8; LONGEST_REPORT],
+    m: usize,
+) -> usize
     requires { ⌜ Room (now out) at (82 * m) ⌝ }
-    requires { ⌜ m ≤ 1024 ⌝ }
+    requires { ⌜ m ≤ mostOperations ⌝ }
     ensures { λ r. ⌜ Lays (now (out .entry)) at (rowTexts (now (report .entry)) m) (now (out .exit)) r ⌝ }
     ensures { λ r. ⌜ r ≤ at + 82 * m ⌝ }
 {
     let mut next = at;
     for i in 0..m {
-        next = lay_row(out, next, report, 9 + 20 * i);
+        next = lay_row(out, next, report, 9 + ROW_LENGTH * i);
     }
     next
 }
 
 // A line of a word, a number, another word and another number.
-fn lay_line(out: &mut [u8; 84009], word: &[u8], a: u32, other: &[u8], b: u32) -> usize
+fn lay_line(out: &mut [u8; LONGEST_TEXT], word: &[u8], a: u32, other: &[u8], b: u32) -> usize
     requires { ⌜ Room (now out) 0 (length (now word) + length (now other) + 24) ⌝ }
     ensures { λ r. ⌜ Lays (now (out .entry)) 0 (line (now (word .entry) ∷ decimal a ∷ now (other .entry) ∷ decimal b ∷ [])) (now (out .exit)) r ⌝ }
     ensures { λ r. ⌜ r ≤ length (now (word .entry)) + length (now (other .entry)) + 24 ⌝ }
@@ -152,7 +180,7 @@ fn lay_line(out: &mut [u8; 84009], word: &[u8], a: u32, other: &[u8], b: u32) ->
     end_line(out, next)
 }
 
-fn lay_first(out: &mut [u8; 84009], operations: u32, counter: u32) -> usize
+fn lay_first(out: &mut [u8; LONGEST_TEXT], operations: u32, counter: u32) -> usize
     requires { ⌜ Room (now out) 0 41 ⌝ }
     ensures { λ r. ⌜ Lays (now (out .entry)) 0 (firstText operations counter) (now (out .exit)) r ⌝ }
     ensures { λ r. ⌜ r ≤ 41 ⌝ }
@@ -160,20 +188,20 @@ fn lay_first(out: &mut [u8; 84009], operations: u32, counter: u32) -> usize
     lay_line(out, b"operations", operations, b"counter", counter)
 }
 
-// The text of a report of at most 1,024 rows: its first line, and one for each row.
-pub fn lay_report(out: &mut [u8; 84009], report: &[u8; 20489]) -> usize
-    requires { ⌜ Room (now out) 0 84009 ⌝ }
-    requires { ⌜ numberAt (now report) 1 / 20 ≤ 1024 ⌝ }
+// The text of a report: its first line, and one for each row.
+pub fn lay_report(out: &mut [u8; LONGEST_TEXT], report: &[u8; LONGEST_REPORT]) -> usize
+    requires { ⌜ Room (now out) 0 longestText ⌝ }
+    requires { ⌜ numberAt (now report) 1 / rowLength ≤ mostOperations ⌝ }
     ensures { λ r. ⌜ Lays (now (out .entry)) 0 (reportText (now (report .entry))) (now (out .exit)) r ⌝ }
-    ensures { λ r. ⌜ r ≤ 84009 ⌝ }
+    ensures { λ r. ⌜ r ≤ longestText ⌝ }
 {
-    let m = (number_at(report, 1) / 20) as usize;
+    let m = number_at(report, 1) as usize / ROW_LENGTH;
     let next = lay_first(out, m as u32, number_at(report, 5));
     lay_rows(out, next, report, m)
 }
 
 // The text of a refusal.
-pub fn lay_refusal(out: &mut [u8; 84009], number: u32, place: u32) -> usize
+pub fn lay_refusal(out: &mut [u8; LONGEST_TEXT], number: u32, place: u32) -> usize
     requires { ⌜ Room (now out) 0 30 ⌝ }
     ensures { λ r. ⌜ Lays (now (out .entry)) 0 (refusalText number place) (now (out .exit)) r ⌝ }
     ensures { λ r. ⌜ r ≤ 30 ⌝ }
@@ -185,7 +213,7 @@ pub fn lay_refusal(out: &mut [u8; 84009], number: u32, place: u32) -> usize
 }
 
 // The line before a recording of a drawer.
-pub fn lay_heading(out: &mut [u8; 84009], number: u32, place: u32) -> usize
+pub fn lay_heading(out: &mut [u8; LONGEST_TEXT], number: u32, place: u32) -> usize
     requires { ⌜ Room (now out) 0 39 ⌝ }
     ensures { λ r. ⌜ Lays (now (out .entry)) 0 (headingOf number place) (now (out .exit)) r ⌝ }
     ensures { λ r. ⌜ r ≤ 39 ⌝ }

@@ -10,72 +10,21 @@ use native.Mathlib.Omega.{arith}
 use lib.ListN.{length, set, length-append}
 use lib.Dec.{eqb}
 use borrow.Author.Count.{below-more}
-use borrow.Author.Tests.{eq-eqb, eqb-true}
+use borrow.Author.Tests.{eqb-true}
 use Rattle.meaning.specs.Steps.{upd}
-use Rattle.meaning.specs.TakenIn.{keep, further, positionOf}
+use Rattle.meaning.specs.TakenIn.{further, positionOf}
 use Rattle.arrays.specs.Arrays.{asFun}
-use Rattle.arrays.proofs.Laws.{fun-set, upd-same, upd-other}
-use Rattle.taken.specs.CountIn.{Waiter}
-use Rattle.listing.specs.Queue.{waiterAt, queueOf, isCounted, ranked, Lists}
+use Rattle.arrays.specs.Numbers.{numbersInRow, rowFrom, rankIn}
+use Rattle.arrays.proofs.Laws.{fun-set}
+use Rattle.meaning.proofs.Updates.{upd-same, upd-other}
+use Rattle.taken.specs.CountIn.{Waiter, isCounted}
+use Rattle.taken.proofs.Lists.{All, none, more, all-append, all-front, all-back, all-head, all-keep, length-keep, further-some, listed-some, Distinct, nothing, another}
+use Rattle.listing.specs.Queue.{waiterAt, queueOf, ranked, Lists}
 use Rattle.listing.specs.declared.Listed.{Listed}
 
 -- a store of v, which is w
 pub stored-as : (xs : List ℕ) (i v w : ℕ) → i < length xs → v ≡ w → asFun (set xs i v) ≡ upd (asFun xs) i w
 stored-as xs i v w h e = fun-set xs i v h ∙ ap (upd (asFun xs) i) e
-
--- ---- a property of every element of a list
-
-pub data All {A : Type 0} (P : A → Type 0) : List A → Type 0 where
-  none : All P []
-  more : {a : A} {l : List A} → P a → All P l → All P (a ∷ l)
-
-module _ {A : Type 0} {P : A → Type 0} where
-  pub all-append : {l m : List A} → All P l → All P m → All P (l ++ m)
-  all-append none b = b
-  all-append (more h a) b = more h (all-append a b)
-
-  pub all-front : (l m : List A) → All P (l ++ m) → All P l
-  all-front [] m a = none
-  all-front (x ∷ l) m (more h a) = more h (all-front l m a)
-
-  pub all-back : (l m : List A) → All P (l ++ m) → All P m
-  all-back [] m a = a
-  all-back (x ∷ l) m (more h a) = all-back l m a
-
-  pub all-head : {a : A} {l : List A} → All P (a ∷ l) → P a
-  all-head (more h a) = h
-
-  pub all-keep : (p : A → Bool) {l : List A} → All P l → All P (keep p l)
-  unfolding keep
-  all-keep p none = none
-  all-keep p (more {a} {l} h rest) = go (p a) (all-keep p rest)
-    where
-      go : (t : Bool) → All P (keep p l) → All P (cond t (a ∷ keep p l) (keep p l))
-      go true k = more h k
-      go false k = k
-
--- ---- what `keep` leaves
-
-module _ {A : Type 0} (p : A → Bool) where
-  pub keep-append : (l m : List A) → keep p (l ++ m) ≡ keep p l ++ keep p m
-  unfolding keep
-  keep-append [] m = refl
-  keep-append (a ∷ l) m = rw (keep-append l m) (go (p a))
-    where
-      go : (t : Bool) → cond t (a ∷ (keep p l ++ keep p m)) (keep p l ++ keep p m) ≡ cond t (a ∷ keep p l) (keep p l) ++ keep p m
-      go true = refl
-      go false = refl
-
-  -- those kept and the others are all
-  pub length-keep : (l : List A) → length (keep p l) + length (keep (λ a. not (p a)) l) ≡ length l
-  unfolding keep
-  length-keep [] = refl
-  length-keep (a ∷ l) = go (p a) (length-keep l)
-    where
-      go : (t : Bool) → length (keep p l) + length (keep (λ a. not (p a)) l) ≡ length l
-          → length (cond t (a ∷ keep p l) (keep p l)) + length (cond (not t) (a ∷ keep (λ a. not (p a)) l) (keep (λ a. not (p a)) l)) ≡ suc (length l)
-      go true e = omega arith
-      go false e = omega arith
 
 -- ---- the queue
 
@@ -93,18 +42,18 @@ queueOf-store q t m v u (suc k) h =
 
 -- stored at its length, it is the last
 pub queueOf-more : (q t : ℕ → ℕ) (k v u : ℕ)
-    → queueOf (upd q k v) (upd t k u) (suc k) ≡ queueOf q t k ++ (record { operation = v / 64; process = v % 64; turn = u } ∷ [])
+    → queueOf (upd q k v) (upd t k u) (suc k) ≡ queueOf q t k ++ (record { operation = v / 64; component = v % 64; turn = u } ∷ [])
 unfolding queueOf waiterAt
 queueOf-more q t k v u = rw (queueOf-store q t k v u k (omega arith), upd-same q k v, upd-same t k u)
 
 pub queueOf-wait : (q t : ℕ → ℕ) (waiting operation p turn : ℕ) → p < 64
     → queueOf (upd q waiting (operation * 64 + p)) (upd t waiting turn) (suc waiting)
-    ≡ queueOf q t waiting ++ (record { operation = operation; process = p; turn = turn } ∷ [])
+    ≡ queueOf q t waiting ++ (record { operation = operation; component = p; turn = turn } ∷ [])
 queueOf-wait q t waiting operation p turn h =
     let i : (operation * 64 + p) / 64 ≡ operation = omega arith in
     let r : (operation * 64 + p) % 64 ≡ p = omega arith in
     queueOf-more q t waiting (operation * 64 + p) turn
-    ∙ ap₂ (λ (x y : ℕ). queueOf q t waiting ++ (record { operation = x; process = y; turn = turn } ∷ [])) i r
+    ∙ ap₂ (λ (x y : ℕ). queueOf q t waiting ++ (record { operation = x; component = y; turn = turn } ∷ [])) i r
 
 -- a property of every waiter, by the list and by the entries
 module _ (P : Waiter → Type 0) (q t : ℕ → ℕ) where
@@ -137,68 +86,43 @@ unfolding ranked
 ranked-append [] js k f = rw (add-zero k)
 ranked-append (i ∷ is) js k f =
     let e : suc k + length is ≡ k + suc (length is) = omega arith in
-    ranked-append is js (suc k) (upd f (5 * i + 3) (suc k)) ∙ rw e
+    ranked-append is js (suc k) (upd f (rowFrom i + rankIn) (suc k)) ∙ rw e
 
 -- a number that is no listed operation's rank stays
-pub ranked-other : (is : List ℕ) (k : ℕ) (f : ℕ → ℕ) (j : ℕ) → ((i : ℕ) → List·Memᴰ i is → j ≡ 5 * i + 3 → ⊥) → ranked is k f j ≡ f j
+pub ranked-other : (is : List ℕ) (k : ℕ) (f : ℕ → ℕ) (j : ℕ) → ((i : ℕ) → List·Memᴰ i is → j ≡ rowFrom i + rankIn → ⊥) → ranked is k f j ≡ f j
 unfolding ranked
 ranked-other [] k f j n = refl
 ranked-other (i ∷ is) k f j n =
-    ranked-other is (suc k) (upd f (5 * i + 3) (suc k)) j (λ x m. n x (List·Memᴰ·tail m))
-    ∙ upd-other f (5 * i + 3) (suc k) j (n i (List·Memᴰ·head refl))
+    ranked-other is (suc k) (upd f (rowFrom i + rankIn) (suc k)) j (λ x m. n x (List·Memᴰ·tail m))
+    ∙ upd-other f (rowFrom i + rankIn) (suc k) j (n i (List·Memᴰ·head refl))
 
 -- the row's other numbers stay
-pub ranked-beside : (is : List ℕ) (k : ℕ) (f : ℕ → ℕ) (j : ℕ) → (j % 5 ≡ 3 → ⊥) → ranked is k f j ≡ f j
+pub ranked-beside : (is : List ℕ) (k : ℕ) (f : ℕ → ℕ) (j : ℕ) → (j % numbersInRow ≡ rankIn → ⊥) → ranked is k f j ≡ f j
 ranked-beside is k f j n = ranked-other is k f j (λ i m e. n (omega arith))
 
-further-none : (n : ℕ) → further n ≡ 0 → n ≡ 0
-unfolding further
-further-none zero e = refl
-further-none (suc n) e = omega arith
-
-further-some : (n : ℕ) → (n ≡ 0 → ⊥) → further n ≡ suc n
-unfolding further
-further-some zero s = absurd (s refl)
-further-some (suc n) s = refl
-
--- what is listed has a position
-pub listed-some : {i : ℕ} {is : List ℕ} → List·Memᴰ i is → positionOf i is ≡ 0 → ⊥
-unfolding positionOf
-listed-some {i} (List·Memᴰ·head {x} {xs} e) z = let t = eq-eqb i x e in let n : _≡_ {A = ℕ} 1 0 = rw t at z in omega arith
-listed-some {i} (List·Memᴰ·tail {x} {xs} m) z = go (eqb i x) (listed-some m) z
-  where
-    go : (t : Bool) → (positionOf i xs ≡ 0 → ⊥) → cond t 1 (further (positionOf i xs)) ≡ 0 → ⊥
-    go true s e = omega arith
-    go false s e = s (further-none _ e)
-
 -- an operation that is not listed keeps its rank
-pub ranked-absent : (is : List ℕ) (k : ℕ) (f : ℕ → ℕ) (i : ℕ) → positionOf i is ≡ 0 → ranked is k f (5 * i + 3) ≡ f (5 * i + 3)
+pub ranked-absent : (is : List ℕ) (k : ℕ) (f : ℕ → ℕ) (i : ℕ) → positionOf i is ≡ 0 → ranked is k f (rowFrom i + rankIn) ≡ f (rowFrom i + rankIn)
 ranked-absent is k f i z =
-    ranked-other is k f (5 * i + 3) (λ x m e. let same : x ≡ i = omega arith in listed-some m (ap (λ y. positionOf y is) same ∙ z))
-
--- a list without doubles
-pub data Distinct : List ℕ → Type 0 where
-  nothing : Distinct []
-  another : {i : ℕ} {is : List ℕ} → positionOf i is ≡ 0 → Distinct is → Distinct (i ∷ is)
+    ranked-other is k f (rowFrom i + rankIn) (λ x m e. let same : x ≡ i = omega arith in listed-some m (ap (λ y. positionOf y is) same ∙ z))
 
 -- a listed operation's rank is its position, after the k listed before
 pub ranked-at : {is : List ℕ} → Distinct is → (k : ℕ) (f : ℕ → ℕ) (i : ℕ) → (positionOf i is ≡ 0 → ⊥)
-    → ranked is k f (5 * i + 3) ≡ k + positionOf i is
+    → ranked is k f (rowFrom i + rankIn) ≡ k + positionOf i is
 unfolding ranked positionOf further
 ranked-at nothing k f i s = absurd (s refl)
-ranked-at (another {i = x} {is = xs} n d) k f i s = go (eqb i x) refl s (ranked-at d (suc k) (upd f (5 * x + 3) (suc k)) i)
+ranked-at (another {i = x} {is = xs} n d) k f i s = go (eqb i x) refl s (ranked-at d (suc k) (upd f (rowFrom x + rankIn) (suc k)) i)
   where
     g : ℕ → ℕ
-    g = upd f (5 * x + 3) (suc k)
+    g = upd f (rowFrom x + rankIn) (suc k)
 
     at : ℕ
     at = positionOf i xs
 
     go : (t : Bool) → eqb i x ≡ t → (cond t 1 (further at) ≡ 0 → ⊥)
-        → ((at ≡ 0 → ⊥) → ranked xs (suc k) g (5 * i + 3) ≡ suc k + at) → ranked xs (suc k) g (5 * i + 3) ≡ k + cond t 1 (further at)
+        → ((at ≡ 0 → ⊥) → ranked xs (suc k) g (rowFrom i + rankIn) ≡ suc k + at) → ranked xs (suc k) g (rowFrom i + rankIn) ≡ k + cond t 1 (further at)
     go true e s rest =
         let same = eqb-true i x e in
-        ranked-absent xs (suc k) g i (ap (λ y. positionOf y xs) same ∙ n) ∙ ap (λ y. g (5 * y + 3)) same ∙ upd-same f (5 * x + 3) (suc k)
+        ranked-absent xs (suc k) g i (ap (λ y. positionOf y xs) same ∙ n) ∙ ap (λ y. g (rowFrom y + rankIn)) same ∙ upd-same f (rowFrom x + rankIn) (suc k)
         ∙ sym (add-one k)
     go false e s rest =
         let some : at ≡ 0 → ⊥ = λ z. s (rw z) in

@@ -1,5 +1,5 @@
 -- The walk over the queue: its first j entries are listed, with the result `Lists` so far, and the others are as they were.
-use Prim.Native.Nat.{ℕ, _+_, _*_, _/_, _%_, _^_, _≤_, _<_}
+use Prim.Native.Nat.{ℕ, _+_, _/_, _%_, _^_, _≤_, _<_}
 use mathlib.Core.Path.{_≡_, refl, sym, ap, _∙_}
 use mathlib.Core.Bool.{Bool, true, false, not, cond}
 use mathlib.Core.List.{List, [], _∷_, _++_, map-append, append-nil}
@@ -10,17 +10,20 @@ use lib.ListN.{length, getD, set, length-append, length-map, length-set}
 use lib.Seq.{getD-set-other}
 use borrow.Author.Tests.{lt-ltb, le-ltb}
 use Rattle.meaning.specs.Steps.{upd}
+use Rattle.meaning.specs.Run.{mostOperations}
 use Rattle.meaning.specs.TakenIn.{keep}
 use Rattle.arrays.specs.Arrays.{asFun}
+use Rattle.arrays.specs.Numbers.{rowFrom, rankIn}
 use Rattle.arrays.proofs.Laws.{fun-set}
-use Rattle.taken.specs.CountIn.{Waiter}
-use Rattle.listing.specs.Queue.{waiterAt, queueOf, isCounted, ranked, operationsOf, Lists, CanList}
-use Rattle.listing.proofs.Laws.{keep-append, length-queueOf, queueOf-more, ranked-append, lists-all}
+use Rattle.taken.specs.CountIn.{Waiter, isCounted, operationsOf}
+use Rattle.listing.specs.Queue.{waiterAt, queueOf, ranked, Lists, CanList}
+use Rattle.taken.proofs.Lists.{keep-append}
+use Rattle.listing.proofs.Laws.{length-queueOf, queueOf-more, ranked-append, lists-all}
 
 -- ---- one waiter more
 
 abbrev waiter : ℕ → ℕ → Waiter
-waiter v u = record { operation = v / 64; process = v % 64; turn = u }
+waiter v u = record { operation = v / 64; component = v % 64; turn = u }
 
 module _ {ws : List Waiter} {count : ℕ → ℕ} {k : ℕ} {f f′ q t : ℕ → ℕ} {kept rank : ℕ}
     (l : Lists ws count k f f′ q t (record { waiting = kept; rank = rank })) (v u : ℕ) where
@@ -32,7 +35,7 @@ module _ {ws : List Waiter} {count : ℕ → ℕ} {k : ℕ} {f f′ q t : ℕ �
   longer = length-append ws (waiter v u ∷ [])
 
   pub counted : isCounted count (waiter v u) ≡ true
-      → Lists (ws ++ (waiter v u ∷ [])) count k f (upd f′ (5 * (v / 64) + 3) (rank + 1)) q t (record { waiting = kept; rank = rank + 1 })
+      → Lists (ws ++ (waiter v u ∷ [])) count k f (upd f′ (rowFrom (v / 64) + rankIn) (rank + 1)) q t (record { waiting = kept; rank = rank + 1 })
   unfolding operationsOf ranked
   counted e =
       let these = kept-one (isCounted count) e in
@@ -84,11 +87,11 @@ starts can =
 pub record Room (queue turns rows : List ℕ) (rank kept j : ℕ) : Type 0 where
   pub index : j < length queue
   pub turn : j < length turns
-  pub few : length queue ≤ 1024
+  pub few : length queue ≤ mostOperations
   pub fewer : kept ≤ j
   pub ranks : rank + 1 < 2 ^ 32
   pub operation : getD queue j 0 / 64 < length queue
-  pub rowsFit : 5 * length queue ≤ length rows
+  pub rowsFit : rowFrom (length queue) ≤ length rows
 
 module _ {q₀ t₀ f₀ : List ℕ} {count : ℕ → ℕ} {waiting k : ℕ} {queue turns rows : List ℕ} {rank kept j : ℕ}
     (w : Walk q₀ t₀ f₀ count waiting k queue turns rows rank kept j) where
@@ -122,10 +125,10 @@ module _ {q₀ t₀ f₀ : List ℕ} {count : ℕ → ℕ} {waiting k : ℕ} {qu
     next = rw (add-one, w .queued j (omega arith), w .turned j (omega arith))
 
     pub lists-it : getD turns j 0 < count (getD queue j 0 % 64)
-        → Walk q₀ t₀ f₀ count waiting k queue turns (set rows (5 * (getD queue j 0 / 64) + 3) (rank + 1)) (rank + 1) kept (j + 1)
+        → Walk q₀ t₀ f₀ count waiting k queue turns (set rows (rowFrom (getD queue j 0 / 64) + rankIn) (rank + 1)) (rank + 1) kept (j + 1)
     unfolding asFun isCounted
     lists-it less =
-        let at : 5 * (getD queue j 0 / 64) + 3 < length rows = omega (arith, room .operation, room .rowsFit) in
+        let at : rowFrom (getD queue j 0 / 64) + rankIn < length rows = omega (arith, room .operation, room .rowsFit) in
         record {
           can = w .can;
           within = omega arith;

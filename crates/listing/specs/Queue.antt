@@ -1,34 +1,28 @@
 -- The additions that wait to be listed, in the order of their leaf writes, and what a root store makes of them.
-use Prim.Native.Nat.{ℕ, zero, suc, _+_, _*_, _/_, _%_, _^_, _≤_, _<_}
+use Prim.Native.Nat.{ℕ, zero, suc, _+_, _/_, _%_, _^_, _≤_, _<_}
 use mathlib.Core.Path.{_≡_}
-use mathlib.Core.Bool.{Bool, not}
-use mathlib.Core.List.{List, [], _∷_, _++_, map}
+use mathlib.Core.Bool.{not}
+use mathlib.Core.List.{List, [], _∷_, _++_}
 use lib.ListN.{length, getD}
-use lib.Dec.{ltb}
 use Rattle.meaning.specs.Steps.{upd}
+use Rattle.meaning.specs.Run.{mostOperations}
 use Rattle.meaning.specs.TakenIn.{keep}
-use Rattle.taken.specs.CountIn.{Waiter}
+use Rattle.taken.specs.CountIn.{Waiter, isCounted, operationsOf}
+use Rattle.arrays.specs.Numbers.{rowFrom, rankIn}
 use Rattle.listing.specs.declared.Listed.{Listed}
 
--- The queue's first k entries: operation and process in one number of the one array, operation * 64 + process, the turn in the other.
+-- The queue's first k entries: operation and component in one number of the one array, operation * 64 + component, the turn in the other.
 unfoldable pub waiterAt : (ℕ → ℕ) → (ℕ → ℕ) → ℕ → Waiter
-waiterAt queue turns j = record { operation = queue j / 64; process = queue j % 64; turn = turns j }
+waiterAt queue turns j = record { operation = queue j / 64; component = queue j % 64; turn = turns j }
 
 unfoldable pub queueOf : (ℕ → ℕ) → (ℕ → ℕ) → ℕ → List Waiter
 queueOf queue turns zero = []
 queueOf queue turns (suc k) = queueOf queue turns k ++ (waiterAt queue turns k ∷ [])
 
--- whether an addition is in node 1, by the counts there
-unfoldable pub isCounted : (ℕ → ℕ) → Waiter → Bool
-isCounted count w = ltb (w .turn) (count (w .process))
-
--- ranks given one after another, from suc k on, in the fourth number of each row
+-- ranks given one after another, from suc k on, each in its operation's row
 unfoldable pub ranked : List ℕ → ℕ → (ℕ → ℕ) → ℕ → ℕ
 ranked [] k f = f
-ranked (i ∷ is) k f = ranked is (suc k) (upd f (5 * i + 3) (suc k))
-
-unfoldable pub operationsOf : List Waiter → List ℕ
-operationsOf ws = map (λ w. w .operation) ws
+ranked (i ∷ is) k f = ranked is (suc k) (upd f (rowFrom i + rankIn) (suc k))
 
 -- what listing gives: the queue without those listed, their ranks in the rows, and how many are listed by then
 pub record Lists (ws : List Waiter) (count : ℕ → ℕ) (k : ℕ) (f f′ queue′ turns′ : ℕ → ℕ) (r : Listed) : Type 0 where
@@ -39,9 +33,9 @@ pub record Lists (ws : List Waiter) (count : ℕ → ℕ) (k : ℕ) (f f′ queu
 
 -- arrays for as many operations as the queue has entries
 pub record Sizes (queue turns rows : List ℕ) : Type 0 where
-  pub few : length queue ≤ 1024
+  pub few : length queue ≤ mostOperations
   pub turnsFit : length queue ≤ length turns
-  pub rowsFit : 5 * length queue ≤ length rows
+  pub rowsFit : rowFrom (length queue) ≤ length rows
 
 -- what it asks: that many waiters at most, each of an operation that has a row, and room for the ranks
 pub record CanList (queue turns rows : List ℕ) (waiting rank : ℕ) : Type 0 where

@@ -1,8 +1,11 @@
 // The queue of additions that are in their leaves and not yet in node 1, and their listing.
+use arrays::NUMBERS_IN_ROW;
+use arrays::RANK_IN;
 ghost use Prim.Native.Nat.{_+_, _*_, _<_};
 ghost use mathlib.Core.Path.{_≡_};
 ghost use lib.ListN.{length};
 ghost use Rattle.meaning.specs.Steps.{upd};
+ghost use Rattle.meaning.specs.Run.{mostOperations};
 ghost use Rattle.arrays.specs.Arrays.{asFun};
 ghost use Rattle.listing.specs.Queue.{queueOf, Lists, CanList};
 
@@ -12,20 +15,20 @@ pub struct Listed {
     pub rank: u32,
 }
 
-// One more at the end of the queue: operation and process, and its turn.
+// One more at the end of the queue: operation and component, and its turn.
 pub fn wait(
     queue: &mut [u16],
     turns: &mut [u16],
     waiting: usize,
     operation: u16,
-    p: usize,
+    component: usize,
     turn: u16,
 )
-    requires { ⌜ (waiting < length (now queue)) × (waiting < length (now turns)) × (operation < 1024) × (p < 64) ⌝ }
-    ensures queue { λ r. ⌜ asFun (now (queue .exit)) ≡ upd (asFun (now (queue .entry))) waiting (operation * 64 + p) ⌝ }
+    requires { ⌜ (waiting < length (now queue)) × (waiting < length (now turns)) × (operation < mostOperations) × (component < 64) ⌝ }
+    ensures queue { λ r. ⌜ asFun (now (queue .exit)) ≡ upd (asFun (now (queue .entry))) waiting (operation * 64 + component) ⌝ }
     ensures turns { λ r. ⌜ asFun (now (turns .exit)) ≡ upd (asFun (now (turns .entry))) waiting turn ⌝ }
 {
-    queue[waiting] = (operation as usize * 64 + p) as u16;
+    queue[waiting] = (operation as usize * 64 + component) as u16;
     turns[waiting] = turn;
 }
 
@@ -47,11 +50,11 @@ pub fn list_in(
     for j in 0..waiting {
         let w = queue[j];
         let t = turns[j];
-        let p = (w % 64) as usize;
-        if t < count[p] {
+        let component = (w % 64) as usize;
+        if t < count[component] {
             let i = (w / 64) as usize;
             rank = rank + 1;
-            rows[5 * i + 3] = rank;
+            rows[NUMBERS_IN_ROW * i + RANK_IN] = rank;
         } else {
             queue[kept] = w;
             turns[kept] = t;

@@ -1,3 +1,3 @@
 pub mod Arrays
-pub mod Does
 pub mod Nexts
+pub mod Tries

@@ -1,3 +1,5 @@
+pub mod Updates
+pub mod EventKinds
 pub mod Starred
 pub mod Cases
 pub mod Direct

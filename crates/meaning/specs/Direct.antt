@@ -1,6 +1,6 @@
 -- Single values of definitions that no recording's answer, report and text reaches, or not on both sides of a line: each beside what the
 -- document says, all as lists of numbers. proofs/Direct.antt shows that the two are one.
-use Prim.Native.Nat.{ℕ, zero, suc}
+use Prim.Native.Nat.{ℕ, zero, suc, _+_}
 use mathlib.Core.Bool.{Bool, true, false, cond}
 use mathlib.Core.List.{List, [], _∷_, _++_}
 use lib.ListN.{length, replicate}
@@ -17,9 +17,10 @@ use Rattle.recording.specs.declared.Cut.{Cut}
 use Rattle.recording.specs.declared.Cut.the-variants.{Found, Broken, End}
 use Rattle.recording.specs.declared.Written.the-variants.{Laid, NoRoom}
 use Rattle.meaning.specs.Layout.{headRefusal}
-use Rattle.meaning.specs.Tree.{processes, leafOf, left, right, parent, ancestor, root}
-use Rattle.meaning.specs.Access.{Access, first, second, starts, readsRoot, readsLeaf, writesLeaf, links, readsLeft, readsRight, stores, isRootRead, isLeafWrite, isReadOf, isStoreAt, isSecondLink}
-use Rattle.meaning.specs.Steps.{Process, sawIt, sawLeft, sawRight, atStep}
+use Rattle.meaning.specs.Tree.{processes, leafOf, left, right, child, parent, ancestor, root}
+use Rattle.meaning.specs.Access.{Access, first, second, starts, readsRoot, readsLeaf, writesLeaf, links, reads as readsChildren, stores, isRootRead, isLeafWrite, componentOf, isReadOf, isStoreAt, isSecondLink}
+use Rattle.meaning.specs.Shape.{Form, numbered, highestShape, isOneOf}
+use Rattle.meaning.specs.Steps.{Process, sawIt, sawChildren, atStep}
 use Rattle.meaning.specs.Run.{Entry, Row, State, Outcome, refused, accepted, initial, busy, newRow, start, recordRefusal, outcome}
 use Rattle.meaning.specs.Alone.{alone}
 use Rattle.meaning.specs.Contention.{during}
@@ -76,9 +77,13 @@ cutShown (Found e next) = next ∷ eventShown e
 cutShown (Broken at) = 6 ∷ at ∷ []
 cutShown End = []
 
+-- a tree of shape 0
+abbrev pub tree : ℕ → Form
+tree h = record { height = h; shape = numbered 0 }
+
 -- the state after a recording that is accepted
 abbrev pub stateAfter : Outcome → State
-stateAfter (refused a) = initial
+stateAfter (refused a) = initial (tree 1)
 stateAfter (accepted st) = st
 
 -- delta, and the records before its start and before its last step, of the first k operations
@@ -93,7 +98,7 @@ tells k ask (a ∷ rest) = cond (ask a) (k ∷ []) [] ++ tells (suc k) ask rest
 
 abbrev pub processShown : Process → List ℕ
 processShown r =
-    r .step ∷ r .operation ∷ digit (r .adds) ∷ r .delta ∷ r .seen ∷ r .seenLeft ∷ r .seenRight ∷ []
+    r .step ∷ r .operation ∷ digit (r .adds) ∷ r .delta ∷ r .seen ∷ r .children 0 ∷ r .children 1 ∷ r .children 2 ∷ []
 
 -- of each entry its process, its operation, whether it is an SC that succeeded, and how many are busy after it
 abbrev pub entries : List Entry → List ℕ
@@ -119,30 +124,32 @@ each =
     ∷ writesLeaf 4
     ∷ links first 2
     ∷ links second 2
-    ∷ readsLeft 2
-    ∷ readsRight 2
+    ∷ readsChildren 2 0 1
+    ∷ readsChildren 2 1 1
     ∷ stores first 2
     ∷ stores second 2
+    ∷ readsChildren 2 0 2
+    ∷ readsChildren 2 0 0
     ∷ []
 
 -- a process's record with another number in each field
 abbrev pub some : Process
-some = record { step = 2; operation = 3; adds = true; delta = 4; seen = 5; seenLeft = 6; seenRight = 7 }
+some = record { step = 2; operation = 3; adds = true; delta = 4; seen = 5; children = λ c. 6 + c }
 
 -- the state before any record, but for the number of operations
 abbrev pub counted : ℕ → State
 counted k =
     record {
-      memory = initial .memory;
-      process = initial .process;
+      memory = initial (tree 1) .memory;
+      process = initial (tree 1) .process;
       operations = k;
-      row = initial .row;
+      row = initial (tree 1) .row;
       history = [];
     }
 
 -- 0 is busy, with operation 1,024
 abbrev pub full : State
-full = start 1 0 false 0 (counted 1023)
+full = start (tree 1) 0 false 0 (counted 1023)
 
 -- the starred recordings D, and F, in which 0 stops after its leaf write
 abbrev pub afterD : State
@@ -245,39 +252,45 @@ ofWriter =
 unfoldable pub ofRun : List Pair
 ofRun =
     -- L's four bytes
-    (headRefusal (1 ∷ 1 ∷ 0 ∷ 0 ∷ 1 ∷ 1 ∷ []) ∷ headRefusal (1 ∷ 0 ∷ 1 ∷ 0 ∷ 1 ∷ 1 ∷ []) ∷ [] is 3 ∷ 3 ∷ [])
+    (headRefusal highestShape (1 ∷ 1 ∷ 0 ∷ 0 ∷ 1 ∷ 1 ∷ []) ∷ headRefusal highestShape (1 ∷ 0 ∷ 1 ∷ 0 ∷ 1 ∷ 1 ∷ []) ∷ [] is 3 ∷ 3 ∷ [])
     -- the tree of 8 processes
     ∷ (processes 3 ∷ leafOf 3 5 ∷ left 5 ∷ right 5 ∷ parent 10 ∷ parent 11 ∷ root ∷ [] is 8 ∷ 13 ∷ 10 ∷ 11 ∷ 5 ∷ 5 ∷ 1 ∷ [])
+    ∷ (child 5 0 ∷ child 5 1 ∷ [] is 10 ∷ 11 ∷ [])
+    -- the kinds of shape 0, and the value that everything starts at
+    ∷ (among (0 ∷ 1 ∷ 2 ∷ 3 ∷ 4 ∷ []) (λ kind. isOneOf kind (numbered 0 .kinds)) is 1 ∷ 2 ∷ 3 ∷ [])
+    ∷ (numbered 0 .begins ∷ [] is 0 ∷ [])
     ∷ (ancestor 0 13 ∷ ancestor 1 13 ∷ ancestor 2 13 ∷ ancestor 3 13 ∷ [] is 13 ∷ 6 ∷ 3 ∷ 1 ∷ [])
     -- Operation 1,024 passes, 1,025 is refused by 10: a recording of so many is too large to compute here. 7, 8 and 9 before 10.
-    ∷ (recordRefusal 1 (counted 1023) (Read 0) ∷ recordRefusal 1 (counted 1023) (Add 1 5) ∷ [] is 0 ∷ 0 ∷ [])
-    ∷ (recordRefusal 1 (counted 1024) (Read 0) ∷ recordRefusal 1 (counted 1024) (Add 1 5) ∷ [] is 10 ∷ 10 ∷ [])
-    ∷ (recordRefusal 1 full (Read 1) ∷ recordRefusal 1 full (Read 0) ∷ recordRefusal 1 full (Add 2 5) ∷ [] is 10 ∷ 8 ∷ 7 ∷ [])
-    ∷ (recordRefusal 1 full (Step 0) ∷ recordRefusal 1 full (Step 1) ∷ recordRefusal 1 full (Step 2) ∷ [] is 0 ∷ 9 ∷ 7 ∷ [])
+    ∷ (recordRefusal (tree 1) (counted 1023) (Read 0) ∷ recordRefusal (tree 1) (counted 1023) (Add 1 5) ∷ [] is 0 ∷ 0 ∷ [])
+    ∷ (recordRefusal (tree 1) (counted 1024) (Read 0) ∷ recordRefusal (tree 1) (counted 1024) (Add 1 5) ∷ [] is 10 ∷ 10 ∷ [])
+    ∷ (recordRefusal (tree 1) full (Read 1) ∷ recordRefusal (tree 1) full (Read 0) ∷ recordRefusal (tree 1) full (Add 2 5) ∷ [] is 10 ∷ 8 ∷ 7 ∷ [])
+    ∷ (recordRefusal (tree 1) full (Step 0) ∷ recordRefusal (tree 1) full (Step 1) ∷ recordRefusal (tree 1) full (Step 2) ∷ [] is 0 ∷ 9 ∷ 7 ∷ [])
     -- of each operation its delta, the records before its start and before its last step
     ∷ (spans 3 afterD is 7 ∷ 0 ∷ 9 ∷ 5 ∷ 5 ∷ 15 ∷ 0 ∷ 10 ∷ 11 ∷ [])
     -- 0 alone has four steps to take, then it is idle
-    ∷ (stepped (alone 1 0 0 afterF) is 1 ∷ 2 ∷ 10 ∷ [])
-    ∷ (stepped (alone 1 0 3 afterF) is 1 ∷ 5 ∷ 13 ∷ [])
-    ∷ (stepped (alone 1 0 4 afterF) is 0 ∷ 6 ∷ 14 ∷ [])
-    ∷ (stepped (alone 1 0 10 afterF) is 0 ∷ 6 ∷ 14 ∷ [])
+    ∷ (stepped (alone (tree 1) 0 0 afterF) is 1 ∷ 2 ∷ 10 ∷ [])
+    ∷ (stepped (alone (tree 1) 0 3 afterF) is 1 ∷ 5 ∷ 13 ∷ [])
+    ∷ (stepped (alone (tree 1) 0 4 afterF) is 0 ∷ 6 ∷ 14 ∷ [])
+    ∷ (stepped (alone (tree 1) 0 10 afterF) is 0 ∷ 6 ∷ 14 ∷ [])
     ∷ []
 
 unfoldable pub ofHistory : List Pair
 ofHistory =
     (tells 0 isRootRead each is 1 ∷ [])
     ∷ (tells 0 isLeafWrite each is 3 ∷ [])
-    ∷ (tells 0 (isReadOf 4) each is 6 ∷ [])
-    ∷ (tells 0 (isReadOf 5) each is 7 ∷ [])
+    ∷ (componentOf (writesLeaf 4) ∷ componentOf (readsLeaf 4) ∷ componentOf (stores first 2) ∷ [] is 4 ∷ 0 ∷ 0 ∷ [])
+    ∷ (tells 0 (isReadOf 4) each is 6 ∷ 10 ∷ [])
+    ∷ (tells 0 (isReadOf 5) each is 7 ∷ 10 ∷ [])
     ∷ (tells 0 (isReadOf 2) each ++ tells 0 (isReadOf 3) each ++ tells 0 (isReadOf 6) each is [])
     ∷ (tells 0 (isStoreAt 2) each is 8 ∷ 9 ∷ [])
     ∷ (tells 0 (isStoreAt 1) each ++ tells 0 (isStoreAt 3) each is [])
     ∷ (tells 0 isSecondLink each is 5 ∷ [])
     -- only what was seen, or the step, is another
-    ∷ (processShown (sawIt 9 some) is 2 ∷ 3 ∷ 1 ∷ 4 ∷ 9 ∷ 6 ∷ 7 ∷ [])
-    ∷ (processShown (sawLeft 9 some) is 2 ∷ 3 ∷ 1 ∷ 4 ∷ 5 ∷ 9 ∷ 7 ∷ [])
-    ∷ (processShown (sawRight 9 some) is 2 ∷ 3 ∷ 1 ∷ 4 ∷ 5 ∷ 6 ∷ 9 ∷ [])
-    ∷ (processShown (atStep 9 some) is 9 ∷ 3 ∷ 1 ∷ 4 ∷ 5 ∷ 6 ∷ 7 ∷ [])
+    ∷ (processShown (sawIt 9 some) is 2 ∷ 3 ∷ 1 ∷ 4 ∷ 9 ∷ 6 ∷ 7 ∷ 8 ∷ [])
+    ∷ (processShown (sawChildren 0 1 (λ c. 10 + c) some) is 2 ∷ 3 ∷ 1 ∷ 4 ∷ 5 ∷ 10 ∷ 7 ∷ 8 ∷ [])
+    ∷ (processShown (sawChildren 1 1 (λ c. 10 + c) some) is 2 ∷ 3 ∷ 1 ∷ 4 ∷ 5 ∷ 6 ∷ 11 ∷ 8 ∷ [])
+    ∷ (processShown (sawChildren 0 2 (λ c. 10 + c) some) is 2 ∷ 3 ∷ 1 ∷ 4 ∷ 5 ∷ 10 ∷ 11 ∷ 8 ∷ [])
+    ∷ (processShown (atStep 9 some) is 9 ∷ 3 ∷ 1 ∷ 4 ∷ 5 ∷ 6 ∷ 7 ∷ 8 ∷ [])
     -- the latest first: 0's leaf read, its start as operation 1, 1's start as operation 0
     ∷ (entries (stateAfter (outcome (recording 14 (reads 1 ∷ adds 0 5 ∷ step 0 ∷ []))) .history)
     is 0 ∷ 1 ∷ 0 ∷ 2 ∷ 0 ∷ 1 ∷ 0 ∷ 2 ∷ 1 ∷ 0 ∷ 0 ∷ 1 ∷ [])
@@ -307,7 +320,7 @@ pairs = ofSets ++ (ofCells ++ (ofRecords ++ (ofWriter ++ (ofRun ++ (ofHistory ++
 unfoldable pub ofLength : List Pair
 ofLength =
     -- 65,536 bytes pass; version 2 before 65,537 bytes
-    (headRefusal (long (0 ∷ 0 ∷ 255 ∷ 251 ∷ []) 1 65530) ∷ headRefusal (2 ∷ replicate 65536 0) ∷ [] is 0 ∷ 2 ∷ [])
+    (headRefusal highestShape (long (0 ∷ 0 ∷ 255 ∷ 251 ∷ []) 1 65530) ∷ headRefusal highestShape (2 ∷ replicate 65536 0) ∷ [] is 0 ∷ 2 ∷ [])
     -- 65,537 bytes with a false L; of which the program takes in all
     ∷ (printed (1 ∷ replicate 65536 0) is text "refused 4 0\n")
     ∷ []

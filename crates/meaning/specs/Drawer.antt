@@ -6,7 +6,8 @@ use lib.ListN.{length, take, drop}
 use lib.Dec.{leb, ltb, eqb}
 use Rattle.recording.specs.Numbers.{fourBytes, numberAt}
 use Rattle.recording.specs.Record.{Answer}
-use Rattle.meaning.specs.Layout.{height}
+use Rattle.meaning.specs.Layout.{formOf}
+use Rattle.meaning.specs.Shape.{Form}
 use Rattle.meaning.specs.Run.{Outcome, refused, accepted, outcome}
 use Rattle.meaning.specs.Report.{reportBytes, passes, checkAnswer}
 
@@ -55,12 +56,12 @@ piecesOf s = piecesFrom (length s) s 0
 -- ---- "each exactly as if run alone"
 
 -- the bytes of a piece's report: "a refused one adds no bytes there"
-unfoldable pub reportWith : ℕ → Outcome → List ℕ
-reportWith h (refused a) = []
-reportWith h (accepted st) = reportBytes h st
+unfoldable pub reportWith : Form → Outcome → List ℕ
+reportWith F (refused a) = []
+reportWith F (accepted st) = reportBytes F st
 
 unfoldable pub reportOf : List ℕ → List ℕ
-reportOf s = reportWith (height s) (outcome s)
+reportOf s = reportWith (formOf s) (outcome s)
 
 -- "5 bytes for each recording": "its refusal number, 0 if accepted, then four bytes of place, counted from that recording's own byte 0"
 unfoldable pub markOf : List ℕ → List ℕ

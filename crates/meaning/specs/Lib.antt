@@ -1,7 +1,9 @@
 pub mod Refusals
-pub mod Layout
 pub mod Tree
 pub mod Access
+pub mod Shape
+pub mod Layout
+pub mod Operations
 pub mod Steps
 pub mod Run
 pub mod Alone

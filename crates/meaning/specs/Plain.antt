@@ -3,7 +3,7 @@ use Prim.Native.Nat.{ℕ, _+_}
 use mathlib.Core.Bool.{cond}
 use mathlib.Core.List.{List, [], _∷_}
 use lib.Dec.{eqb}
-use Rattle.meaning.specs.Steps.{plus}
+use Rattle.meaning.specs.Shape.{plus}
 use Rattle.meaning.specs.Run.{Row}
 
 -- the number after the operation of that row: an addition adds its delta, a read leaves it

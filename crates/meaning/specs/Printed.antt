@@ -8,8 +8,9 @@ use mathlib.Core.List.{List, [], _∷_, _++_}
 use lib.ListN.{take}
 use lib.Dec.{ltb, eqb}
 use Rattle.recording.specs.Record.{Answer}
-use Rattle.meaning.specs.Layout.{height}
+use Rattle.meaning.specs.Layout.{formOf}
 use Rattle.meaning.specs.Tree.{root}
+use Rattle.meaning.specs.Shape.{Form}
 use Rattle.meaning.specs.Run.{Row, State, Outcome, refused, accepted, outcome}
 use Rattle.meaning.specs.Contention.{contention}
 use Rattle.meaning.specs.TakenIn.{rank}
@@ -49,20 +50,20 @@ rowLine w contention rank =
     ∷ decimal (w .seconds)
     ∷ [])
 
-unfoldable pub rowLines : ℕ → State → ℕ → List ℕ
-rowLines h st zero = []
-rowLines h st (suc k) = rowLines h st k ++ rowLine (st .row k) (contention (st .row k) (st .history)) (rank h (st .history) k)
+unfoldable pub rowLines : Form → State → ℕ → List ℕ
+rowLines F st zero = []
+rowLines F st (suc k) = rowLines F st k ++ rowLine (st .row k) (contention (st .row k) (st .history)) (rank F (st .history) k)
 
 -- "the word `refused`, the number and the place"; otherwise "`operations m counter v` and one line per row"
-unfoldable pub printedOf : ℕ → Outcome → List ℕ
-printedOf h (refused a) = line (text "refused" ∷ decimal (a .number) ∷ decimal (a .place) ∷ [])
-printedOf h (accepted st) =
+unfoldable pub printedOf : Form → Outcome → List ℕ
+printedOf F (refused a) = line (text "refused" ∷ decimal (a .number) ∷ decimal (a .place) ∷ [])
+printedOf F (accepted st) =
     line (text "operations" ∷ decimal (st .operations) ∷ text "counter" ∷ decimal (st .memory .value root) ∷ [])
-    ++ rowLines h st (st .operations)
+    ++ rowLines F st (st .operations)
 
 -- "It takes in at most 65,537 bytes; more would not change the answer."
 unfoldable pub printed : List ℕ → List ℕ
-printed s = let t : List ℕ = take 65537 s in printedOf (height t) (outcome t)
+printed s = let t : List ℕ = take 65537 s in printedOf (formOf t) (outcome t)
 
 -- the line before each recording of a drawer: "its number, its offset in the file", the number from 1 on
 unfoldable pub headingOf : ℕ → ℕ → List ℕ

@@ -9,9 +9,10 @@ use Rattle.recording.specs.Record.{Answer}
 use Rattle.recording.specs.declared.Event.{Event}
 use Rattle.recording.specs.declared.Event.the-variants.{Step, Read, Add}
 use Rattle.meaning.specs.Refusals.{_when_, firstOf}
-use Rattle.meaning.specs.Layout.{headRefusal, height, Records, end, broken, event, recordsOf}
+use Rattle.meaning.specs.Layout.{headRefusal, formOf, Records, end, broken, event, recordsOf}
 use Rattle.meaning.specs.Tree.{processes}
 use Rattle.meaning.specs.Access.{Access, starts, isRootRead, isSecondLink}
+use Rattle.meaning.specs.Shape.{Form, highestShape}
 use Rattle.meaning.specs.Steps.{upd, Memory, Process, idle, Effect, effect, accessOf, nextRecord}
 
 -- What one record of the recording did: which process, for which operation, what, whether that was an SC that succeeded, and how many
@@ -49,10 +50,10 @@ unfoldable pub blank : Row
 blank = record { process = 0; kind = 0; delta = 0; finished = false; steps = 0; answer = 0; seconds = 0; started = 0; ended = 0 }
 
 -- "All values start at 0 and all link sets empty."
-unfoldable pub initial : State
-initial =
+unfoldable pub initial : Form → State
+initial F =
     record {
-      memory = record { value = λ x. 0; linked = λ x. nobody };
+      memory = record { value = λ x. F .shape .begins; linked = λ x. nobody };
       process = λ p. idle;
       operations = 0;
       row = λ i. blank;
@@ -64,13 +65,13 @@ unfoldable pub busy : (ℕ → Process) → ℕ → Bool
 busy process p = not (eqb (process p .step) 0)
 
 -- the count of ones in the busy set
-unfoldable pub busyCount : ℕ → (ℕ → Process) → ℕ
-busyCount h process = countBelow (processes h) (busy process)
+unfoldable pub busyCount : Form → (ℕ → Process) → ℕ
+busyCount F process = countBelow (processes (F .height)) (busy process)
 
 -- ---- a start record
 
 unfoldable pub started : ℕ → Bool → ℕ → Process
-started i adds delta = record { step = 1; operation = i; adds = adds; delta = delta; seen = 0; seenLeft = 0; seenRight = 0 }
+started i adds delta = record { step = 1; operation = i; adds = adds; delta = delta; seen = 0; children = λ c. 0 }
 
 unfoldable pub kindOf : Bool → ℕ
 kindOf adds = cond adds 3 2
@@ -89,15 +90,15 @@ newRow p adds delta now =
       ended = 0;
     }
 
-unfoldable pub start : ℕ → ℕ → Bool → ℕ → State → State
-start h p adds delta st =
+unfoldable pub start : Form → ℕ → Bool → ℕ → State → State
+start F p adds delta st =
     let after : ℕ → Process = upd (st .process) p (started (st .operations) adds delta) in
     record {
       memory = st .memory;
       process = after;
       operations = suc (st .operations);
       row = upd (st .row) (st .operations) (newRow p adds delta (length (st .history)));
-      history = record { process = p; operation = st .operations; access = starts; stored = false; busy = busyCount h after } ∷ st .history;
+      history = record { process = p; operation = st .operations; access = starts; stored = false; busy = busyCount F after } ∷ st .history;
     }
 
 -- ---- a step
@@ -118,19 +119,19 @@ rowAfter a r now w =
       ended = now;
     }
 
-unfoldable pub takeStep : ℕ → ℕ → State → State
-takeStep h p st =
+unfoldable pub takeStep : Form → ℕ → State → State
+takeStep F p st =
     let r : Process = st .process p in
-    let a : Access = accessOf h p r in
-    let f : Effect = effect p r (st .memory) a in
-    let r′ : Process = nextRecord h p r f in
+    let a : Access = accessOf F p r in
+    let f : Effect = effect F p r (st .memory) a in
+    let r′ : Process = nextRecord F p r f in
     let after : ℕ → Process = upd (st .process) p r′ in
     record {
       memory = f .memory;
       process = after;
       operations = st .operations;
       row = upd (st .row) (r .operation) (rowAfter a r′ (length (st .history)) (st .row (r .operation)));
-      history = record { process = p; operation = r .operation; access = a; stored = f .stored; busy = busyCount h after } ∷ st .history;
+      history = record { process = p; operation = r .operation; access = a; stored = f .stored; busy = busyCount F after } ∷ st .history;
     }
 
 -- ---- the records, from first to last
@@ -145,20 +146,28 @@ isStart (Step p) = false
 isStart (Read p) = true
 isStart (Add p d) = true
 
--- "each by 6, 7, then 8 or 9, then 10"; a record that 6 refuses has no event
-unfoldable pub recordRefusal : ℕ → State → Event → ℕ
-recordRefusal h st e =
+-- 10: "a start that would be operation 1,025"
+abbrev pub mostOperations : ℕ
+mostOperations = 1024
+
+-- "each by 6, 7, then 8 or 9, then 10", where it is told whether the process is busy and how many operations have started; a record that 6
+-- refuses has no event
+unfoldable pub refusalBy : Form → Event → Bool → ℕ → ℕ
+refusalBy F e isBusy started =
     firstOf
-    (7 when leb (processes h) (processOf e)
-    ∷ 8 when (isStart e && busy (st .process) (processOf e))
-    ∷ 9 when (not (isStart e) && not (busy (st .process) (processOf e)))
-    ∷ 10 when (isStart e && leb 1024 (st .operations))
+    (7 when leb (processes (F .height)) (processOf e)
+    ∷ 8 when (isStart e && isBusy)
+    ∷ 9 when (not (isStart e) && not isBusy)
+    ∷ 10 when (isStart e && leb mostOperations started)
     ∷ [])
 
-unfoldable pub takeEvent : ℕ → State → Event → State
-takeEvent h st (Step p) = takeStep h p st
-takeEvent h st (Read p) = start h p false 0 st
-takeEvent h st (Add p d) = start h p true d st
+unfoldable pub recordRefusal : Form → State → Event → ℕ
+recordRefusal F st e = refusalBy F e (busy (st .process) (processOf e)) (st .operations)
+
+unfoldable pub takeEvent : Form → State → Event → State
+takeEvent F st (Step p) = takeStep F p st
+takeEvent F st (Read p) = start F p false 0 st
+takeEvent F st (Add p d) = start F p true d st
 
 -- a recording is refused, or accepted with the state after its last record
 pub data Outcome : Type 0 where
@@ -170,10 +179,10 @@ unfoldable pub unless : ℕ → ℕ → Outcome → Outcome
 unless zero at next = next
 unless (suc k) at next = refused (record { number = suc k; place = at })
 
-unfoldable pub run : ℕ → State → Records → Outcome
-run h st end = accepted st
-run h st (broken at) = refused (record { number = 6; place = at })
-run h st (event at e rest) = unless (recordRefusal h st e) at (run h (takeEvent h st e) rest)
+unfoldable pub run : Form → State → Records → Outcome
+run F st end = accepted st
+run F st (broken at) = refused (record { number = 6; place = at })
+run F st (event at e rest) = unless (recordRefusal F st e) at (run F (takeEvent F st e) rest)
 
 unfoldable pub outcome : List ℕ → Outcome
-outcome s = unless (headRefusal s) 0 (run (height s) initial (recordsOf s))
+outcome s = unless (headRefusal highestShape s) 0 (run (formOf s) (initial (formOf s)) (recordsOf s))

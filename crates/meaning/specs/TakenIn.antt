@@ -4,7 +4,8 @@ use mathlib.Core.Bool.{Bool, false, not, cond, _&&_, _||_}
 use mathlib.Core.List.{List, [], _∷_, _++_, map}
 use lib.Dec.{eqb}
 use Rattle.meaning.specs.Tree.{leafOf, ancestor}
-use Rattle.meaning.specs.Access.{isRootRead, isLeafWrite, isReadOf, isStoreAt}
+use Rattle.meaning.specs.Access.{isRootRead, isLeafWrite, componentOf, isReadOf, isStoreAt}
+use Rattle.meaning.specs.Shape.{Form}
 use Rattle.meaning.specs.Run.{Entry}
 
 -- "It is in its leaf from its write there on, which is step 2."
@@ -41,20 +42,20 @@ leafWrites [] = []
 leafWrites (e ∷ es) = leafWrites es ++ cond (isLeafWrite (e .access)) (e ∷ []) []
 
 -- whether the addition that wrote w is in node 1
-unfoldable pub inRoot : ℕ → Entry → List Entry → Bool
-inRoot h w es = isInNode h (leafOf h (w .process)) (w .operation) es
+unfoldable pub inRoot : Form → Entry → List Entry → Bool
+inRoot F w es = isInNode (F .height) (leafOf (F .height) (componentOf (w .access))) (w .operation) es
 
 -- What an entry adds to the list: a finished read at its one step; "additions that are in node 1, placed at the SC that took them in.
 -- Additions with the same SC are ordered by their leaf writes."
-unfoldable pub placed : ℕ → Entry → List Entry → List ℕ
-placed h e es =
+unfoldable pub placed : Form → Entry → List Entry → List ℕ
+placed F e es =
     cond (isRootRead (e .access)) (e .operation ∷ [])
-    (map (λ w. w .operation) (keep (λ w. inRoot h w (e ∷ es) && not (inRoot h w es)) (leafWrites es)))
+    (map (λ w. w .operation) (keep (λ w. inRoot F w (e ∷ es) && not (inRoot F w es)) (leafWrites es)))
 
 -- "The list of demand 3": the numbers of the operations listed, in order
-unfoldable pub listed : ℕ → List Entry → List ℕ
-listed h [] = []
-listed h (e ∷ es) = listed h es ++ placed h e es
+unfoldable pub listed : Form → List Entry → List ℕ
+listed F [] = []
+listed F (e ∷ es) = listed F es ++ placed F e es
 
 -- "An operation's rank is its position, from 1"; 0 if not listed
 unfoldable pub further : ℕ → ℕ
@@ -65,5 +66,5 @@ unfoldable pub positionOf : ℕ → List ℕ → ℕ
 positionOf i [] = 0
 positionOf i (j ∷ js) = cond (eqb i j) 1 (further (positionOf i js))
 
-unfoldable pub rank : ℕ → List Entry → ℕ → ℕ
-rank h es i = positionOf i (listed h es)
+unfoldable pub rank : Form → List Entry → ℕ → ℕ
+rank F es i = positionOf i (listed F es)

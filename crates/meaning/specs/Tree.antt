@@ -14,6 +14,10 @@ left x = 2 * x
 unfoldable pub right : ℕ → ℕ
 right x = 2 * x + 1
 
+-- the children by number: 0 is the left one, 1 the right one
+unfoldable pub child : ℕ → ℕ → ℕ
+child x c = left x + c
+
 -- the node whose child x is
 unfoldable pub parent : ℕ → ℕ
 parent x = x / 2

@@ -11,7 +11,8 @@ use Rattle.recording.specs.Numbers.{fourBytes, numberAt}
 use Rattle.recording.specs.Record.{Answer}
 use Rattle.recording.proofs.Laws.{number-there, number-of-bytes-there}
 use Rattle.rows.proofs.Laws.{length-rowsBytes}
-use Rattle.meaning.specs.Layout.{height}
+use Rattle.meaning.specs.Shape.{Form}
+use Rattle.meaning.specs.Layout.{formOf}
 use Rattle.meaning.specs.Tree.{root}
 use Rattle.meaning.specs.Run.{Row, State, Outcome, refused, accepted, outcome}
 use Rattle.meaning.specs.Contention.{contention}
@@ -63,38 +64,38 @@ module _ (w : Row) (c r : ℕ) (steps : w .steps < 2 ^ 32) (answer : w .answer <
 
 -- ---- the rows, and the report
 
-module _ (h : ℕ) (st : State) (fits : Fits h st) where
-  rows-shown : (front : List ℕ) → length front ≡ 9 → (k : ℕ) (rest : List ℕ) → rowTexts (front ++ (rowsBytes h st k ++ rest)) k ≡ rowLines h st k
+module _ (F : Form) (st : State) (fits : Fits F st) where
+  rows-shown : (front : List ℕ) → length front ≡ 9 → (k : ℕ) (rest : List ℕ) → rowTexts (front ++ (rowsBytes F st k ++ rest)) k ≡ rowLines F st k
   unfolding rowTexts rowLines rowsBytes
   rows-shown front nine zero rest = refl
   rows-shown front nine (suc k) rest =
       let w : Row = st .row k in
       let c : ℕ = contention w (st .history) in
-      let r : ℕ = rank h (st .history) k in
-      let before : List ℕ = front ++ rowsBytes h st k in
-      let long : length before ≡ 9 + 20 * k = length-append front (rowsBytes h st k) ∙ omega (arith, length-rowsBytes h st k) in
-      let all : front ++ (rowsBytes h st k ++ rowBytes w c r ++ rest) ≡ before ++ (rowBytes w c r ++ rest) =
-      ap (λ (l : List ℕ). front ++ l) (append-assoc (rowsBytes h st k) (rowBytes w c r) rest) ∙ sym (append-assoc front (rowsBytes h st k) (rowBytes w c r ++ rest)) in
+      let r : ℕ = rank F (st .history) k in
+      let before : List ℕ = front ++ rowsBytes F st k in
+      let long : length before ≡ 9 + 20 * k = length-append front (rowsBytes F st k) ∙ omega (arith, length-rowsBytes F st k) in
+      let all : front ++ (rowsBytes F st k ++ rowBytes w c r ++ rest) ≡ before ++ (rowBytes w c r ++ rest) =
+      ap (λ (l : List ℕ). front ++ l) (append-assoc (rowsBytes F st k) (rowBytes w c r) rest) ∙ sym (append-assoc front (rowsBytes F st k) (rowBytes w c r ++ rest)) in
       ap₂ (λ (a b : List ℕ). a ++ b)
-      (ap (λ (l : List ℕ). rowTexts l k) (ap (λ (l : List ℕ). front ++ l) (append-assoc (rowsBytes h st k) (rowBytes w c r) rest)) ∙ rows-shown front nine k (rowBytes w c r ++ rest))
+      (ap (λ (l : List ℕ). rowTexts l k) (ap (λ (l : List ℕ). front ++ l) (append-assoc (rowsBytes F st k) (rowBytes w c r) rest)) ∙ rows-shown front nine k (rowBytes w c r ++ rest))
       (ap₂ (λ (l : List ℕ) (n : ℕ). rowText l n) all (sym long)
       ∙ row-shown w c r (fits .steps k) (fits .answer k) (fits .rank k) (fits .seconds k) rest before)
 
   abbrev report : List ℕ → List ℕ
-  report rest = reportBytes h st ++ rest
+  report rest = reportBytes F st ++ rest
 
   operations-shown : (rest : List ℕ) → numberAt (report rest) 1 / 20 ≡ st .operations
   unfolding reportBytes fourBytes
   operations-shown rest =
       omega
-      (arith, fits .operations, number-of-bytes-there (1 ∷ []) (4 + 20 * st .operations) (fourBytes (st .memory .value root) ++ rowsBytes h st (st .operations) ++ rest) (omega (arith, fits .operations)))
+      (arith, fits .operations, number-of-bytes-there (1 ∷ []) (4 + 20 * st .operations) (fourBytes (st .memory .value root) ++ rowsBytes F st (st .operations) ++ rest) (omega (arith, fits .operations)))
 
   counter-shown : (rest : List ℕ) → numberAt (report rest) 5 ≡ st .memory .value root
   unfolding reportBytes fourBytes
   counter-shown rest =
-      number-of-bytes-there (1 ∷ fourBytes (4 + 20 * st .operations)) (st .memory .value root) (rowsBytes h st (st .operations) ++ rest) (fits .counter)
+      number-of-bytes-there (1 ∷ fourBytes (4 + 20 * st .operations)) (st .memory .value root) (rowsBytes F st (st .operations) ++ rest) (fits .counter)
 
-  report-shown : (rest : List ℕ) → firstText (st .operations) (st .memory .value root) ++ rowTexts (report rest) (st .operations) ≡ printedOf h (accepted st)
+  report-shown : (rest : List ℕ) → firstText (st .operations) (st .memory .value root) ++ rowTexts (report rest) (st .operations) ≡ printedOf F (accepted st)
   unfolding printedOf firstText reportBytes fourBytes
   report-shown rest =
       ap (λ (l : List ℕ). firstText (st .operations) (st .memory .value root) ++ l)
@@ -103,15 +104,15 @@ module _ (h : ℕ) (st : State) (fits : Fits h st) where
 -- ---- by what report promises
 
 module _ (s t buf after : List ℕ) (r : Reply) (cut : t ≡ take 65537 s) (long : length buf ≡ 20489) (x : Reports t buf after r) where
-  text-of : printedOf (height t) (outcome t) ≡ printed s
+  text-of : printedOf (formOf t) (outcome t) ≡ printed s
   unfolding printed
-  text-of = ap (λ (l : List ℕ). printedOf (height l) (outcome l)) cut
+  text-of = ap (λ (l : List ℕ). printedOf (formOf l) (outcome l)) cut
 
   pub refusal-printed : (r .number ≡ 0 → ⊥) → refusalText (r .number) (r .place) ≡ printed s
   unfolding printedOf refusalText answerOf reportAnswer answerWith passes needed
   refusal-printed some = go (outcome t) refl (x .answer) ∙ text-of
     where
-      go : (o : Outcome) → outcome t ≡ o → answerOf r ≡ answerWith o (length buf) → refusalText (r .number) (r .place) ≡ printedOf (height t) o
+      go : (o : Outcome) → outcome t ≡ o → answerOf r ≡ answerWith o (length buf) → refusalText (r .number) (r .place) ≡ printedOf (formOf t) o
       go (refused a) e d = ap (λ (z : Answer). refusalText (z .number) (z .place)) d
       go (accepted st) e d =
           let its : answerOf r ≡ passes = d ∙ rw (le-leb (needed st) (length buf) (omega (arith, long, accepted-fits t st e .operations))) in
@@ -122,19 +123,19 @@ module _ (s t buf after : List ℕ) (r : Reply) (cut : t ≡ take 65537 s) (long
   unfolding answerOf reportAnswer answerWith reportBuffer bufferWith needed reportText
   report-printed none = go (outcome t) refl (x .answer) (x .buffer)
     where
-      go : (o : Outcome) → outcome t ≡ o → answerOf r ≡ answerWith o (length buf) → after ≡ bufferWith (height t) o buf
+      go : (o : Outcome) → outcome t ≡ o → answerOf r ≡ answerWith o (length buf) → after ≡ bufferWith (formOf t) o buf
           → (numberAt after 1 / 20 ≤ 1024) × (reportText after ≡ printed s)
       go (refused a) e d b = absurd (omega (arith, refusal-positive t a e, ap (λ (z : Answer). z .number) d))
       go (accepted st) e d b =
           let fits = accepted-fits t st e in
           let room = le-leb (needed st) (length buf) (omega (arith, long, fits .operations)) in
           let rest : List ℕ = drop (needed st) buf in
-          let its : after ≡ reportBytes (height t) st ++ rest = b ∙ rw room in
-          let m : numberAt after 1 / 20 ≡ st .operations = ap (λ (l : List ℕ). numberAt l 1 / 20) its ∙ operations-shown (height t) st fits rest in
-          let w : numberAt after 5 ≡ st .memory .value root = ap (λ (l : List ℕ). numberAt l 5) its ∙ counter-shown (height t) st fits rest in (
+          let its : after ≡ reportBytes (formOf t) st ++ rest = b ∙ rw room in
+          let m : numberAt after 1 / 20 ≡ st .operations = ap (λ (l : List ℕ). numberAt l 1 / 20) its ∙ operations-shown (formOf t) st fits rest in
+          let w : numberAt after 5 ≡ st .memory .value root = ap (λ (l : List ℕ). numberAt l 5) its ∙ counter-shown (formOf t) st fits rest in (
             omega (arith, m, fits .operations),
-            ap₂ (λ (a b : List ℕ). a ++ b) (ap₂ firstText m w) (ap₂ rowTexts its m) ∙ report-shown (height t) st fits rest
-                ∙ ap (λ (o : Outcome). printedOf (height t) o) (sym e) ∙ text-of,
+            ap₂ (λ (a b : List ℕ). a ++ b) (ap₂ firstText m w) (ap₂ rowTexts its m) ∙ report-shown (formOf t) st fits rest
+                ∙ ap (λ (o : Outcome). printedOf (formOf t) o) (sym e) ∙ text-of,
           )
 
 -- ---- the whole buffer

@@ -1,7 +1,10 @@
 // The text that the printing programs print of a recording.
+use lines::LONGEST_TEXT;
 use lines::lay_heading;
 use lines::lay_refusal;
 use lines::lay_report;
+use recording::LONGEST_RECORDING;
+use recording::LONGEST_REPORT;
 ghost use Prim.Native.Nat.{_+_, _≤_};
 ghost use mathlib.Core.Path.{_≡_};
 ghost use mathlib.Core.List.{_++_};
@@ -10,18 +13,20 @@ ghost use Rattle.meaning.specs.Printed.{printed, headingOf};
 ghost use Rattle.laying.specs.Lays.{Lays};
 ghost use Rattle.printing.specs.Prints.{Prints};
 
+// One byte more than the longest, so that a longer one shows.
+const MOST_TAKEN_IN: usize = LONGEST_RECORDING + 1;
+
 // That the buffer has its length, for the proofs.
-fn sized(out: [u8; 84009]) -> bool
+fn sized(out: [u8; LONGEST_TEXT]) -> bool
     ensures { λ r. ⌜ length out ≡ 84009 ⌝ }
 {
     true
 }
 
-// At most 65,537 bytes are taken in.
 fn taken_in(rec: &[u8]) -> &[u8]
     ensures { λ r. ⌜ now r ≡ take 65537 (now (rec .entry)) ⌝ }
 {
-    let most: usize = 65537;
+    let most: usize = MOST_TAKEN_IN;
     if rec.len() < most {
         return rec;
     }
@@ -29,11 +34,11 @@ fn taken_in(rec: &[u8]) -> &[u8]
 }
 
 // The text of a recording at the front of a buffer that has room for every text, and how many bytes it has.
-pub fn print(rec: &[u8], out: &mut [u8; 84009]) -> usize
+pub fn print(rec: &[u8], out: &mut [u8; LONGEST_TEXT]) -> usize
     ensures { λ r. ⌜ Prints (now (rec .entry)) (now (out .entry)) (now (out .exit)) r ⌝ }
 {
     sized(*out);
-    let mut report = [0u8; 20489];
+    let mut report = [0u8; LONGEST_REPORT];
     let reply = entries::report(taken_in(rec), &mut report);
     if reply.number != 0 {
         return lay_refusal(out, reply.number, reply.place);
@@ -42,7 +47,7 @@ pub fn print(rec: &[u8], out: &mut [u8; 84009]) -> usize
 }
 
 // The first n bytes of a text at a place; the place after them.
-fn lay_text(out: &mut [u8], at: usize, text: &[u8; 84009], n: usize) -> usize
+fn lay_text(out: &mut [u8], at: usize, text: &[u8; LONGEST_TEXT], n: usize) -> usize
     requires { ⌜ (n ≤ 84009) × (n ≤ length (now text)) × (at + n ≤ length (now out)) ⌝ }
     ensures { λ r. ⌜ Lays (now (out .entry)) at (take n (now (text .entry))) (now (out .exit)) r ⌝ }
     ensures { λ r. ⌜ r ≡ at + n ⌝ }
@@ -58,7 +63,7 @@ pub fn print_in_drawer(
     rec: &[u8],
     number: u32,
     place: u32,
-    text: &mut [u8; 84009],
+    text: &mut [u8; LONGEST_TEXT],
     out: &mut [u8],
     at: usize,
 ) -> usize

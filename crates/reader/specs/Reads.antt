@@ -8,12 +8,13 @@ use denote.Ref.{RefT, now}
 use Rattle.recording.specs.Record.{Cuts}
 use Rattle.recording.specs.declared.Cut.{Cut}
 use Rattle.recording.specs.declared.Cut.the-variants.{Found, Broken, End}
+use Rattle.meaning.specs.Layout.{firstRecord}
 use Rattle.reader.specs.declared.Reader.{Reader}
 use Rattle.reader.specs.declared.Reading.{Reading}
 
 -- a reader that was lent a recording: it stands at the first record, behind the height at byte 5
 unfoldable pub readerOf : RefT (List ℕ) → Reader
-readerOf rec = record { rec = rec; place = 6 }
+readerOf rec = record { rec = rec; place = firstRecord }
 
 -- the place afterwards: it moves past an event, and not at a refusal or at the end
 unfoldable pub placeAfter : ℕ → Cut → ℕ

@@ -3,6 +3,7 @@
 ghost use mathlib.Core.Path.{_≡_};
 ghost use Rattle.reader.specs.Reads.{Reads, ReadsAt, readerOf};
 use recording::Cut;
+use recording::FIRST_RECORD;
 
 pub struct Reader<'a> {
     pub rec: &'a [u8],
@@ -27,11 +28,13 @@ pub fn reading_at(rec: &[u8], place: usize) -> Reading
 }
 
 impl<'a> Reader<'a> {
-    // The first record stands at byte 6.
     pub fn new(rec: &'a [u8]) -> Reader<'a>
         ensures { λ r. ⌜ r ≡ readerOf (rec .entry) ⌝ }
     {
-        Reader { rec, place: 6 }
+        Reader {
+            rec,
+            place: FIRST_RECORD,
+        }
     }
 
     // Hands out what stands at the place, also beyond the bytes. The place moves past an event, and not at a refusal or at the end.

@@ -5,11 +5,31 @@ ghost use mathlib.Core.Path.{_≡_};
 ghost use Rattle.recording.specs.Record.{Cuts, bytesOf};
 ghost use Rattle.recording.specs.Written.{Writes};
 
+// The longest recording that is taken, the highest tree, where the first record stands, and the most operations.
+pub const LONGEST_RECORDING: usize = 65536;
+
+pub const HIGHEST_TREE: u8 = 6;
+
+pub const FIRST_RECORD: usize = 6;
+
+pub const MOST_OPERATIONS: u32 = 1024;
+
+// The bytes of a report's row, and of the longest report.
+pub const ROW_LENGTH: usize = 20;
+
+pub const LONGEST_REPORT: usize = 9 + ROW_LENGTH * MOST_OPERATIONS as usize;
+
 // What a process does next, by its process number; an addition with its delta.
 pub enum Event {
     Step(u8),
     Read(u8),
     Add(u8, u32),
+}
+
+// The tree that a recording is of: its height, and its shape by number.
+pub struct Form {
+    pub height: u32,
+    pub shape: u8,
 }
 
 // What stands at a place: an event and the next place, a record that rule 6 refuses, or the end.

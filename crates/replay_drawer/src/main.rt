@@ -5,6 +5,7 @@ use libc::SEEK_SET;
 use libc::STDERR_FILENO;
 use libc::STDIN_FILENO;
 use libc::STDOUT_FILENO;
+use lines::LONGEST_TEXT;
 use lines::lay_refusal;
 use printing::print_in_drawer;
 use recording::number;
@@ -154,7 +155,7 @@ fn make_room(waiting: &[u8], here: Here) -> Turn
 // The heading and the text of the piece at a cut, put after what waits.
 fn print_piece(
     window: &mut [u8],
-    text: &mut [u8; 84009],
+    text: &mut [u8; LONGEST_TEXT],
     waiting: &mut [u8],
     here: Here,
     piece: usize,
@@ -190,7 +191,7 @@ fn print_piece(
 // The cut at which a pass is, and, where texts are to be printed, that of its piece.
 fn cut(
     window: &mut [u8],
-    text: &mut [u8; 84009],
+    text: &mut [u8; LONGEST_TEXT],
     waiting: &mut [u8],
     here: Here,
     size: usize,
@@ -240,7 +241,7 @@ fn go_over(size: usize, prints: bool) -> Went
     requires { ⌜ size ≤ 16777216 ⌝ }
 {
     let mut window = [0u8; 131072];
-    let mut text = [0u8; 84009];
+    let mut text = [0u8; LONGEST_TEXT];
     let mut waiting = [0u8; 131072];
     let mut here = Here {
         at: 0,
@@ -278,7 +279,7 @@ fn explain(went: Went) {
 }
 
 fn refuse(number: u32, place: u32) {
-    let mut text = [0u8; 84009];
+    let mut text = [0u8; LONGEST_TEXT];
     let n = lay_refusal(&mut text, number, place);
     if !send(&text, n) {
         explain(Went::Unwritten);

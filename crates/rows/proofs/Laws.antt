@@ -1,4 +1,4 @@
--- A row set is settled by its five numbers and the others; what rows closed show; the bytes of the numbers in order are the bytes of the report.
+-- A row set is settled by its numbers and the others; what rows closed show; the bytes of the numbers in order are the bytes of the report.
 use Prim.Native.Nat.{ℕ, zero, suc, _+_, _*_, _/_, _%_, _^_, _≤_, _<_}
 use mathlib.Core.Path.{_≡_, refl, sym, ap, _∙_, fun-ext}
 use mathlib.Core.Bool.{Bool, true, false, cond, _&&_}
@@ -11,37 +11,39 @@ use borrow.Author.Tests.{eq-eqb, ne-eqb, eqb-true, eqb-false, ltb-true, ltb-fals
 use Rattle.recording.specs.Numbers.{fourBytes, numberAt}
 use Rattle.recording.proofs.Laws.{length-fourBytes, bytes-of-number}
 use Rattle.meaning.specs.Tree.{root}
+use Rattle.meaning.specs.Shape.{Form}
 use Rattle.meaning.specs.Run.{Row, State}
 use Rattle.meaning.specs.Contention.{contention}
 use Rattle.meaning.specs.TakenIn.{rank}
-use Rattle.meaning.specs.Report.{one, rowBytes, rowsBytes, reportBytes, needed}
+use Rattle.meaning.specs.Report.{one, rowBytes, rowsBytes, rowLength, reportBytes, needed}
+use Rattle.arrays.specs.Numbers.{numbersInRow, rowFrom}
 use Rattle.rows.specs.Rows.{head, rowNumbers, withRow, unfinishedBy, processBy, closedNumber, closed, RoomToClose, numbersBytes, laidReport}
 
 -- ---- one row set
 
 module _ (f : ℕ → ℕ) (i : ℕ) (ns : List ℕ) where
-  pub withRow-at : (k : ℕ) → k < 5 → withRow f i ns (5 * i + k) ≡ getD ns k 0
+  pub withRow-at : (k : ℕ) → k < numbersInRow → withRow f i ns (rowFrom i + k) ≡ getD ns k 0
   unfolding withRow
   withRow-at k h =
-      let row : (5 * i + k) / 5 ≡ i = omega arith in
-      let column : (5 * i + k) % 5 ≡ k = omega arith in
+      let row : (rowFrom i + k) / numbersInRow ≡ i = omega arith in
+      let column : (rowFrom i + k) % numbersInRow ≡ k = omega arith in
       rw (row, column, eq-eqb i i refl)
 
-  pub withRow-other : (j : ℕ) → (j / 5 ≡ i → ⊥) → withRow f i ns j ≡ f j
+  pub withRow-other : (j : ℕ) → (j / numbersInRow ≡ i → ⊥) → withRow f i ns j ≡ f j
   unfolding withRow
-  withRow-other j n = rw (ne-eqb (j / 5) i n)
+  withRow-other j n = rw (ne-eqb (j / numbersInRow) i n)
 
-  -- a function that has the five numbers there and agrees elsewhere
-  pub withRow-is : (g : ℕ → ℕ) → ((k : ℕ) → k < 5 → g (5 * i + k) ≡ getD ns k 0) → ((j : ℕ) → (j / 5 ≡ i → ⊥) → g j ≡ f j)
+  -- a function that has the numbers there and agrees elsewhere
+  pub withRow-is : (g : ℕ → ℕ) → ((k : ℕ) → k < numbersInRow → g (rowFrom i + k) ≡ getD ns k 0) → ((j : ℕ) → (j / numbersInRow ≡ i → ⊥) → g j ≡ f j)
       → g ≡ withRow f i ns
   unfolding withRow
-  withRow-is g there else = fun-ext (λ j. go j (eqb (j / 5) i) refl)
+  withRow-is g there else = fun-ext (λ j. go j (eqb (j / numbersInRow) i) refl)
     where
-      go : (j : ℕ) (t : Bool) → eqb (j / 5) i ≡ t → g j ≡ cond t (getD ns (j % 5) 0) (f j)
+      go : (j : ℕ) (t : Bool) → eqb (j / numbersInRow) i ≡ t → g j ≡ cond t (getD ns (j % numbersInRow) 0) (f j)
       go j true e =
-          let place : j ≡ 5 * i + j % 5 = omega (arith, eqb-true (j / 5) i e) in
-          ap g place ∙ there (j % 5) (omega arith)
-      go j false e = else j (eqb-false (j / 5) i e)
+          let place : j ≡ rowFrom i + j % numbersInRow = omega (arith, eqb-true (j / numbersInRow) i e) in
+          ap g place ∙ there (j % numbersInRow) (omega arith)
+      go j false e = else j (eqb-false (j / numbersInRow) i e)
 
 pub withRow-withRow : (f : ℕ → ℕ) (i : ℕ) (a b : List ℕ) → withRow (withRow f i a) i b ≡ withRow f i b
 withRow-withRow f i a b =
@@ -96,7 +98,7 @@ module _ (w : Row) (contention rank : ℕ) (fits : RowFits w) (small : contentio
   unfolding rowBytes
   row-bytes = rw (head-bytes _ _ _ _ (fits .process) (fits .kind) (one-small (w .finished)) small)
 
-  pub row-numbers-bytes : numbersBytes (λ k. getD (rowNumbers w contention rank) k 0) 5 ≡ rowBytes w contention rank
+  pub row-numbers-bytes : numbersBytes (λ k. getD (rowNumbers w contention rank) k 0) numbersInRow ≡ rowBytes w contention rank
   unfolding numbersBytes rowNumbers
   row-numbers-bytes = simp append-assoc row-bytes
 
@@ -104,48 +106,48 @@ module _ (w : Row) (contention rank : ℕ) (fits : RowFits w) (small : contentio
 
 module _ (greatest : ℕ → ℕ) (m : ℕ) (f : ℕ → ℕ) where
   -- by whether j is the first number of one of the first m rows, with `closed` already computed
-  closed-cases : (P : ℕ → Type 0) (j : ℕ) → (j < 5 * m → j % 5 ≡ 0 → P (closedNumber greatest (f j)))
-      → ((j < 5 * m → j % 5 ≡ 0 → ⊥) → P (f j)) → P (closed greatest m f j)
+  closed-cases : (P : ℕ → Type 0) (j : ℕ) → (j < rowFrom m → j % numbersInRow ≡ 0 → P (closedNumber greatest (f j)))
+      → ((j < rowFrom m → j % numbersInRow ≡ 0 → ⊥) → P (f j)) → P (closed greatest m f j)
   unfolding closed
-  closed-cases P j first other = go (ltb j (5 * m)) (eqb (j % 5) 0) refl refl
+  closed-cases P j first other = go (ltb j (rowFrom m)) (eqb (j % numbersInRow) 0) refl refl
     where
-      go : (a b : Bool) → ltb j (5 * m) ≡ a → eqb (j % 5) 0 ≡ b → P (cond (a && b) (closedNumber greatest (f j)) (f j))
-      go true true l e = first (ltb-true j (5 * m) l) (eqb-true (j % 5) 0 e)
-      go true false l e = other (λ _ i. eqb-false (j % 5) 0 e i)
-      go false b l e = other (λ i _. omega (arith, ltb-false j (5 * m) l))
+      go : (a b : Bool) → ltb j (rowFrom m) ≡ a → eqb (j % numbersInRow) 0 ≡ b → P (cond (a && b) (closedNumber greatest (f j)) (f j))
+      go true true l e = first (ltb-true j (rowFrom m) l) (eqb-true (j % numbersInRow) 0 e)
+      go true false l e = other (λ _ i. eqb-false (j % numbersInRow) 0 e i)
+      go false b l e = other (λ i _. omega (arith, ltb-false j (rowFrom m) l))
 
-  pub closed-first : (i : ℕ) → i < m → closed greatest m f (5 * i) ≡ closedNumber greatest (f (5 * i))
-  closed-first i h = closed-cases (λ (x : ℕ). x ≡ closedNumber greatest (f (5 * i))) (5 * i) (λ _ _. refl) (λ n. absurd (n (omega arith) (omega arith)))
+  pub closed-first : (i : ℕ) → i < m → closed greatest m f (rowFrom i) ≡ closedNumber greatest (f (rowFrom i))
+  closed-first i h = closed-cases (λ (x : ℕ). x ≡ closedNumber greatest (f (rowFrom i))) (rowFrom i) (λ _ _. refl) (λ n. absurd (n (omega arith) (omega arith)))
 
-  pub closed-other : (j : ℕ) → (j < 5 * m → j % 5 ≡ 0 → ⊥) → closed greatest m f j ≡ f j
+  pub closed-other : (j : ℕ) → (j < rowFrom m → j % numbersInRow ≡ 0 → ⊥) → closed greatest m f j ≡ f j
   closed-other j n = closed-cases (λ (x : ℕ). x ≡ f j) j (λ l e. absurd (n l e)) (λ _. refl)
 
   -- a function that has the first numbers of these rows closed and agrees elsewhere
-  pub closed-is : (g : ℕ → ℕ) → ((i : ℕ) → i < m → g (5 * i) ≡ closedNumber greatest (f (5 * i)))
-      → ((j : ℕ) → (j < 5 * m → j % 5 ≡ 0 → ⊥) → g j ≡ f j) → g ≡ closed greatest m f
+  pub closed-is : (g : ℕ → ℕ) → ((i : ℕ) → i < m → g (rowFrom i) ≡ closedNumber greatest (f (rowFrom i)))
+      → ((j : ℕ) → (j < rowFrom m → j % numbersInRow ≡ 0 → ⊥) → g j ≡ f j) → g ≡ closed greatest m f
   closed-is g there else = fun-ext (λ j. closed-cases (λ (x : ℕ). g j ≡ x) j (first j) (else j))
     where
-      first : (j : ℕ) → j < 5 * m → j % 5 ≡ 0 → g j ≡ closedNumber greatest (f j)
+      first : (j : ℕ) → j < rowFrom m → j % numbersInRow ≡ 0 → g j ≡ closedNumber greatest (f j)
       first j l e =
-          let place : j ≡ 5 * (j / 5) = omega arith in
-          ap g place ∙ there (j / 5) (omega arith) ∙ ap (λ (k : ℕ). closedNumber greatest (f k)) (sym place)
+          let place : j ≡ rowFrom (j / numbersInRow) = omega arith in
+          ap g place ∙ there (j / numbersInRow) (omega arith) ∙ ap (λ (k : ℕ). closedNumber greatest (f k)) (sym place)
 
 module _ (greatest f : ℕ → ℕ) where
   pub closed-none : f ≡ closed greatest 0 f
   closed-none = closed-is greatest 0 f f (λ i h. absurd (omega arith)) (λ j n. refl)
 
   -- one row more
-  pub closed-next : (i : ℕ) (g : ℕ → ℕ) → g (5 * i) ≡ closedNumber greatest (f (5 * i))
-      → ((j : ℕ) → (j ≡ 5 * i → ⊥) → g j ≡ closed greatest i f j) → g ≡ closed greatest (i + 1) f
+  pub closed-next : (i : ℕ) (g : ℕ → ℕ) → g (rowFrom i) ≡ closedNumber greatest (f (rowFrom i))
+      → ((j : ℕ) → (j ≡ rowFrom i → ⊥) → g j ≡ closed greatest i f j) → g ≡ closed greatest (i + 1) f
   closed-next i g there else =
       closed-is greatest (i + 1) f g (λ k h. go k h (eqb k i) refl)
       (λ j n. else j (λ e. n (omega arith) (omega arith)) ∙ closed-other greatest i f j (λ l e. n (omega arith) e))
     where
-      go : (k : ℕ) → k < i + 1 → (t : Bool) → eqb k i ≡ t → g (5 * k) ≡ closedNumber greatest (f (5 * k))
+      go : (k : ℕ) → k < i + 1 → (t : Bool) → eqb k i ≡ t → g (rowFrom k) ≡ closedNumber greatest (f (rowFrom k))
       go k h true e = rw (eqb-true k i e) there
       go k h false e =
           let other : k ≡ i → ⊥ = eqb-false k i e in
-          else (5 * k) (λ same. other (omega arith)) ∙ closed-first greatest i f k (omega (arith, other))
+          else (rowFrom k) (λ same. other (omega arith)) ∙ closed-first greatest i f k (omega (arith, other))
 
 -- a finished row's first number stays, and an unfinished one's gets the contention kept for its process
 closed-head : (greatest : ℕ → ℕ) (process kind contention : ℕ) (finished : Bool) → kind < 256 → contention < 256
@@ -162,19 +164,19 @@ closed-head greatest p k c false hk hc none =
     rw (empty, byte, process) (omega arith)
 
 module _ (greatest : ℕ → ℕ) (m : ℕ) (f : ℕ → ℕ) (row : ℕ → Row) (shown ranks : ℕ → ℕ)
-    (numbers : (i k : ℕ) → i < m → k < 5 → f (5 * i + k) ≡ getD (rowNumbers (row i) (shown i) (ranks i)) k 0)
+    (numbers : (i k : ℕ) → i < m → k < numbersInRow → f (rowFrom i + k) ≡ getD (rowNumbers (row i) (shown i) (ranks i)) k 0)
     (fits : (i : ℕ) → i < m → RowFits (row i))
     (small : (i : ℕ) → i < m → shown i < 256)
     (none : (i : ℕ) → i < m → row i .finished ≡ false → shown i ≡ 0) where
   -- what the rows show after the end: the contention put in at the last step, or the one kept
-  pub closed-rows : (i k : ℕ) → i < m → k < 5
-      → closed greatest m f (5 * i + k) ≡ getD (rowNumbers (row i) (cond (row i .finished) (shown i) (greatest (row i .process))) (ranks i)) k 0
+  pub closed-rows : (i k : ℕ) → i < m → k < numbersInRow
+      → closed greatest m f (rowFrom i + k) ≡ getD (rowNumbers (row i) (cond (row i .finished) (shown i) (greatest (row i .process))) (ranks i)) k 0
   unfolding rowNumbers
   closed-rows i zero h l =
       rw add-zero
       (closed-first greatest m f i h ∙ ap (closedNumber greatest) (rw add-zero at (numbers i 0 h l))
       ∙ closed-head greatest _ _ _ _ (fits i h .kind) (small i h) (none i h))
-  closed-rows i (suc k) h l = closed-other greatest m f (5 * i + suc k) (λ _ e. omega arith) ∙ numbers i (suc k) h l
+  closed-rows i (suc k) h l = closed-other greatest m f (rowFrom i + suc k) (λ _ e. omega arith) ∙ numbers i (suc k) h l
 
 -- fewer rows can be closed where more can
 pub fewer-to-close : (f : ℕ → ℕ) (k m size : ℕ) → k ≤ m → RoomToClose f m size → RoomToClose f k size
@@ -182,36 +184,36 @@ fewer-to-close f k m size b room = record { process = λ i h. room .process i (o
 
 -- ---- the report
 
-length-rowBytes : (w : Row) (contention rank : ℕ) → length (rowBytes w contention rank) ≡ 20
+length-rowBytes : (w : Row) (contention rank : ℕ) → length (rowBytes w contention rank) ≡ rowLength
 unfolding rowBytes
 length-rowBytes w contention rank = simp (length-append, length-fourBytes)
 
-pub length-rowsBytes : (h : ℕ) (st : State) (k : ℕ) → length (rowsBytes h st k) ≡ 20 * k
+pub length-rowsBytes : (F : Form) (st : State) (k : ℕ) → length (rowsBytes F st k) ≡ rowLength * k
 unfolding rowsBytes
-length-rowsBytes h st zero = refl
-length-rowsBytes h st (suc k) = simp (length-append, length-rowsBytes h st k, length-rowBytes) (omega arith)
+length-rowsBytes F st zero = refl
+length-rowsBytes F st (suc k) = simp (length-append, length-rowsBytes F st k, length-rowBytes) (omega arith)
 
-pub length-reportBytes : (h : ℕ) (st : State) → length (reportBytes h st) ≡ needed st
+pub length-reportBytes : (F : Form) (st : State) → length (reportBytes F st) ≡ needed st
 unfolding reportBytes needed
-length-reportBytes h st = simp (length-append, length-fourBytes, length-rowsBytes) (omega arith)
+length-reportBytes F st = simp (length-append, length-fourBytes, length-rowsBytes) (omega arith)
 
-module _ (h : ℕ) (st : State) (f : ℕ → ℕ)
-    (numbers : (i k : ℕ) → i < st .operations → k < 5
-    → f (5 * i + k) ≡ getD (rowNumbers (st .row i) (contention (st .row i) (st .history)) (rank h (st .history) i)) k 0)
+module _ (F : Form) (st : State) (f : ℕ → ℕ)
+    (numbers : (i k : ℕ) → i < st .operations → k < numbersInRow
+    → f (rowFrom i + k) ≡ getD (rowNumbers (st .row i) (contention (st .row i) (st .history)) (rank F (st .history) i)) k 0)
     (fits : (i : ℕ) → i < st .operations → RowFits (st .row i))
     (small : (i : ℕ) → i < st .operations → contention (st .row i) (st .history) < 256) where
-  rows-bytes : (m : ℕ) → m ≤ st .operations → numbersBytes f (5 * m) ≡ rowsBytes h st m
+  rows-bytes : (m : ℕ) → m ≤ st .operations → numbersBytes f (rowFrom m) ≡ rowsBytes F st m
   unfolding numbersBytes rowsBytes
   rows-bytes zero below = refl
   rows-bytes (suc m) below =
-      let more : 5 * suc m ≡ 5 * m + 5 = omega arith in
+      let more : rowFrom (suc m) ≡ rowFrom m + numbersInRow = omega arith in
       let w : Row = st .row m in
       let c : ℕ = contention w (st .history) in
-      let r : ℕ = rank h (st .history) m in
-      let last = numbersBytes-same _ (λ k. getD (rowNumbers w c r) k 0) 5 (λ k h. numbers m k (omega arith) h) ∙ row-numbers-bytes w c r (fits m (omega arith)) (small m (omega arith)) in
+      let r : ℕ = rank F (st .history) m in
+      let last = numbersBytes-same _ (λ k. getD (rowNumbers w c r) k 0) numbersInRow (λ k h. numbers m k (omega arith) h) ∙ row-numbers-bytes w c r (fits m (omega arith)) (small m (omega arith)) in
       rw (more, numbersBytes-add, rows-bytes m (omega arith), last)
 
   pub report-bytes : (buf : List ℕ)
-      → laidReport (st .operations) (st .memory .value root) f buf ≡ reportBytes h st ++ drop (needed st) buf
+      → laidReport (st .operations) (st .memory .value root) f buf ≡ reportBytes F st ++ drop (needed st) buf
   unfolding laidReport reportBytes needed
   report-bytes buf = rw (rows-bytes (st .operations) (omega arith))

@@ -10,8 +10,9 @@ use lib.ListN.{length, getD, take, drop, set, length-set, length-append, take-ap
 use lib.Seq.{sets, sets-eq, set-split, length-take-le, getD-set-same, getD-set-other, set-getD, set-comm, take-at, drop-at, drop-drop}
 use borrow.Author.Tests.{eq-eqb, ne-eqb}
 use Rattle.arrays.specs.Arrays.{asFun}
+use Rattle.arrays.specs.Numbers.{numbersInRow, rowFrom, stepsIn, answerIn, rankIn, secondsIn}
 use Rattle.recording.specs.Numbers.{fourBytes}
-use Rattle.meaning.specs.Report.{one}
+use Rattle.meaning.specs.Report.{one, rowLength}
 use Rattle.rows.specs.Rows.{withRow, steppedNumbers, unfinishedBy, processBy, closedNumber, closed, numbersBytes, laidAt, laidReport}
 use Rattle.rows.proofs.Laws.{withRow-is, closed-other, closed-next, length-numbersBytes}
 
@@ -43,90 +44,90 @@ module _ (l : List ℕ) (n a b c d : ℕ) where
       let four : n + 4 ≡ suc (suc (suc (suc n))) = omega arith in
       rw (four-stored, four)
 
-pub row-stored : (l : List ℕ) (i a b c d e : ℕ) → 5 * i + 5 ≤ length l
-    → asFun (set (set (set (set (set l (5 * i) a) (5 * i + 1) b) (5 * i + 2) c) (5 * i + 3) d) (5 * i + 4) e)
+pub row-stored : (l : List ℕ) (i a b c d e : ℕ) → rowFrom i + numbersInRow ≤ length l
+    → asFun (set (set (set (set (set l (rowFrom i) a) (rowFrom i + stepsIn) b) (rowFrom i + answerIn) c) (rowFrom i + rankIn) d) (rowFrom i + secondsIn) e)
     ≡ withRow (asFun l) i (a ∷ b ∷ c ∷ d ∷ e ∷ [])
 unfolding asFun
 row-stored l i a b c d e room =
     let ns : List ℕ = a ∷ b ∷ c ∷ d ∷ e ∷ [] in
-    rw (five-stored l (5 * i) a b c d e)
-    (withRow-is (asFun l) i ns (asFun (sets l (5 * i) ns)) (λ k h. sets-there ns l (5 * i) k room h)
-    (λ j n. sets-else ns l (5 * i) j (λ k h e. n (omega arith))))
+    rw (five-stored l (rowFrom i) a b c d e)
+    (withRow-is (asFun l) i ns (asFun (sets l (rowFrom i) ns)) (λ k h. sets-there ns l (rowFrom i) k room h)
+    (λ j n. sets-else ns l (rowFrom i) j (λ k h e. n (omega arith))))
 
-pub seconds-beside : (l : List ℕ) (i b c : ℕ) → getD (set (set l (5 * i + 1) b) (5 * i + 2) c) (5 * i + 4) 0 ≡ getD l (5 * i + 4) 0
+pub seconds-beside : (l : List ℕ) (i b c : ℕ) → getD (set (set l (rowFrom i + stepsIn) b) (rowFrom i + answerIn) c) (rowFrom i + secondsIn) 0 ≡ getD l (rowFrom i + secondsIn) 0
 seconds-beside l i b c =
-    getD-set-other (set l (5 * i + 1) b) (5 * i + 2) (5 * i + 4) c 0 (λ d. omega arith)
-    ∙ getD-set-other l (5 * i + 1) (5 * i + 4) b 0 (λ d. omega arith)
+    getD-set-other (set l (rowFrom i + stepsIn) b) (rowFrom i + answerIn) (rowFrom i + secondsIn) c 0 (λ d. omega arith)
+    ∙ getD-set-other l (rowFrom i + stepsIn) (rowFrom i + secondsIn) b 0 (λ d. omega arith)
 
 -- a step's stores, of steps, answer and seconds, and at the last one of the first number: the rank is not among them
 module _ (l : List ℕ) (i b c e : ℕ) where
   abbrev pub stepped : List ℕ
-  stepped = set (set (set l (5 * i + 1) b) (5 * i + 2) c) (5 * i + 4) e
+  stepped = set (set (set l (rowFrom i + stepsIn) b) (rowFrom i + answerIn) c) (rowFrom i + secondsIn) e
 
-  pub first-beside : getD stepped (5 * i) 0 ≡ getD l (5 * i) 0
+  pub first-beside : getD stepped (rowFrom i) 0 ≡ getD l (rowFrom i) 0
   first-beside =
-      getD-set-other (set (set l (5 * i + 1) b) (5 * i + 2) c) (5 * i + 4) (5 * i) e 0 (λ d. omega arith)
-      ∙ getD-set-other (set l (5 * i + 1) b) (5 * i + 2) (5 * i) c 0 (λ d. omega arith)
-      ∙ getD-set-other l (5 * i + 1) (5 * i) b 0 (λ d. omega arith)
+      getD-set-other (set (set l (rowFrom i + stepsIn) b) (rowFrom i + answerIn) c) (rowFrom i + secondsIn) (rowFrom i) e 0 (λ d. omega arith)
+      ∙ getD-set-other (set l (rowFrom i + stepsIn) b) (rowFrom i + answerIn) (rowFrom i) c 0 (λ d. omega arith)
+      ∙ getD-set-other l (rowFrom i + stepsIn) (rowFrom i) b 0 (λ d. omega arith)
 
   -- the five stores of `row-stored`, with the rank that is there already
-  first-stored : (a : ℕ) → 5 * i + 5 ≤ length l → asFun (set stepped (5 * i) a) ≡ withRow (asFun l) i (a ∷ b ∷ c ∷ getD l (5 * i + 3) 0 ∷ e ∷ [])
+  first-stored : (a : ℕ) → rowFrom i + numbersInRow ≤ length l → asFun (set stepped (rowFrom i) a) ≡ withRow (asFun l) i (a ∷ b ∷ c ∷ getD l (rowFrom i + rankIn) 0 ∷ e ∷ [])
   first-stored a room =
-      let three : List ℕ = set (set (set l (5 * i) a) (5 * i + 1) b) (5 * i + 2) c in
-      let rank : getD three (5 * i + 3) 0 ≡ getD l (5 * i + 3) 0 =
-      getD-set-other (set (set l (5 * i) a) (5 * i + 1) b) (5 * i + 2) (5 * i + 3) c 0 (λ d. omega arith)
-      ∙ getD-set-other (set l (5 * i) a) (5 * i + 1) (5 * i + 3) b 0 (λ d. omega arith)
-      ∙ getD-set-other l (5 * i) (5 * i + 3) a 0 (λ d. omega arith) in
-      let stores : set stepped (5 * i) a ≡ set three (5 * i + 4) e =
-      set-comm (set (set l (5 * i + 1) b) (5 * i + 2) c) (5 * i + 4) (5 * i) e a (λ d. omega arith)
-      ∙ ap (λ (x : List ℕ). set x (5 * i + 4) e)
-      (set-comm (set l (5 * i + 1) b) (5 * i + 2) (5 * i) c a (λ d. omega arith)
-      ∙ ap (λ (x : List ℕ). set x (5 * i + 2) c) (set-comm l (5 * i + 1) (5 * i) b a (λ d. omega arith))) in
-      ap asFun (stores ∙ ap (λ (x : List ℕ). set x (5 * i + 4) e) (sym (set-getD three (5 * i + 3) 0)))
-      ∙ row-stored l i a b c (getD three (5 * i + 3) 0) e room
+      let three : List ℕ = set (set (set l (rowFrom i) a) (rowFrom i + stepsIn) b) (rowFrom i + answerIn) c in
+      let rank : getD three (rowFrom i + rankIn) 0 ≡ getD l (rowFrom i + rankIn) 0 =
+      getD-set-other (set (set l (rowFrom i) a) (rowFrom i + stepsIn) b) (rowFrom i + answerIn) (rowFrom i + rankIn) c 0 (λ d. omega arith)
+      ∙ getD-set-other (set l (rowFrom i) a) (rowFrom i + stepsIn) (rowFrom i + rankIn) b 0 (λ d. omega arith)
+      ∙ getD-set-other l (rowFrom i) (rowFrom i + rankIn) a 0 (λ d. omega arith) in
+      let stores : set stepped (rowFrom i) a ≡ set three (rowFrom i + secondsIn) e =
+      set-comm (set (set l (rowFrom i + stepsIn) b) (rowFrom i + answerIn) c) (rowFrom i + secondsIn) (rowFrom i) e a (λ d. omega arith)
+      ∙ ap (λ (x : List ℕ). set x (rowFrom i + secondsIn) e)
+      (set-comm (set l (rowFrom i + stepsIn) b) (rowFrom i + answerIn) (rowFrom i) c a (λ d. omega arith)
+      ∙ ap (λ (x : List ℕ). set x (rowFrom i + answerIn) c) (set-comm l (rowFrom i + stepsIn) (rowFrom i) b a (λ d. omega arith))) in
+      ap asFun (stores ∙ ap (λ (x : List ℕ). set x (rowFrom i + secondsIn) e) (sym (set-getD three (rowFrom i + rankIn) 0)))
+      ∙ row-stored l i a b c (getD three (rowFrom i + rankIn) 0) e room
       ∙ ap (λ (d : ℕ). withRow (asFun l) i (a ∷ b ∷ c ∷ d ∷ e ∷ [])) rank
 
-  first-stays : 5 * i + 5 ≤ length l → asFun stepped ≡ withRow (asFun l) i (getD l (5 * i) 0 ∷ b ∷ c ∷ getD l (5 * i + 3) 0 ∷ e ∷ [])
-  first-stays room = ap asFun (sym (set-getD stepped (5 * i) 0)) ∙ first-stored (getD stepped (5 * i) 0) room ∙ rw first-beside
+  first-stays : rowFrom i + numbersInRow ≤ length l → asFun stepped ≡ withRow (asFun l) i (getD l (rowFrom i) 0 ∷ b ∷ c ∷ getD l (rowFrom i + rankIn) 0 ∷ e ∷ [])
+  first-stays room = ap asFun (sym (set-getD stepped (rowFrom i) 0)) ∙ first-stored (getD stepped (rowFrom i) 0) room ∙ rw first-beside
 
-module _ (l : List ℕ) (i contention answer e : ℕ) (finished second : Bool) (room : 5 * i + 5 ≤ length l) (s : e ≡ getD l (5 * i + 4) 0 + one second) where
+module _ (l : List ℕ) (i contention answer e : ℕ) (finished second : Bool) (room : rowFrom i + numbersInRow ≤ length l) (s : e ≡ getD l (rowFrom i + secondsIn) 0 + one second) where
   pub last-step : finished ≡ true
-      → asFun (set (stepped l i (getD l (5 * i + 1) 0 + 1) answer e) (5 * i) (getD (stepped l i (getD l (5 * i + 1) 0 + 1) answer e) (5 * i) 0 + 256 + contention))
+      → asFun (set (stepped l i (getD l (rowFrom i + stepsIn) 0 + 1) answer e) (rowFrom i) (getD (stepped l i (getD l (rowFrom i + stepsIn) 0 + 1) answer e) (rowFrom i) 0 + 256 + contention))
       ≡ withRow (asFun l) i (steppedNumbers (asFun l) i finished contention answer second)
   unfolding asFun steppedNumbers one
   last-step t =
-      let first : getD (stepped l i (getD l (5 * i + 1) 0 + 1) answer e) (5 * i) 0 + 256 + contention ≡ getD l (5 * i) 0 + one finished * (2 ^ 8 + contention) =
+      let first : getD (stepped l i (getD l (rowFrom i + stepsIn) 0 + 1) answer e) (rowFrom i) 0 + 256 + contention ≡ getD l (rowFrom i) 0 + one finished * (2 ^ 8 + contention) =
       rw (first-beside, t) (omega arith) in
-      first-stored l i (getD l (5 * i + 1) 0 + 1) answer e _ room ∙ rw (first, s)
+      first-stored l i (getD l (rowFrom i + stepsIn) 0 + 1) answer e _ room ∙ rw (first, s)
 
   pub other-step : finished ≡ false
-      → asFun (stepped l i (getD l (5 * i + 1) 0 + 1) answer e) ≡ withRow (asFun l) i (steppedNumbers (asFun l) i finished contention answer second)
+      → asFun (stepped l i (getD l (rowFrom i + stepsIn) 0 + 1) answer e) ≡ withRow (asFun l) i (steppedNumbers (asFun l) i finished contention answer second)
   unfolding asFun steppedNumbers one
   other-step t =
-      let first : asFun l (5 * i) + one finished * (2 ^ 8 + contention) ≡ getD l (5 * i) 0 = rw t (omega arith) in
-      first-stays l i (getD l (5 * i + 1) 0 + 1) answer e room ∙ rw (first, s)
+      let first : asFun l (rowFrom i) + one finished * (2 ^ 8 + contention) ≡ getD l (rowFrom i) 0 = rw t (omega arith) in
+      first-stays l i (getD l (rowFrom i + stepsIn) 0 + 1) answer e room ∙ rw (first, s)
 
 -- the turn of row i, when those before it are closed
 module _ (greatest f : ℕ → ℕ) (i : ℕ) (l : List ℕ) (before : asFun l ≡ closed greatest i f) where
-  pub first-number : getD l (5 * i) 0 ≡ f (5 * i)
+  pub first-number : getD l (rowFrom i) 0 ≡ f (rowFrom i)
   unfolding asFun
-  first-number = ap (λ (g : ℕ → ℕ). g (5 * i)) before ∙ closed-other greatest i f (5 * i) (λ h e. omega arith)
+  first-number = ap (λ (g : ℕ → ℕ). g (rowFrom i)) before ∙ closed-other greatest i f (rowFrom i) (λ h e. omega arith)
 
-  pub finished-stays : (getD l (5 * i) 0 / 2 ^ 8 % 2 ^ 8 ≡ 0 → ⊥) → asFun l ≡ closed greatest (i + 1) f
+  pub finished-stays : (getD l (rowFrom i) 0 / 2 ^ 8 % 2 ^ 8 ≡ 0 → ⊥) → asFun l ≡ closed greatest (i + 1) f
   unfolding asFun closedNumber unfinishedBy
   finished-stays n =
-      let kept : unfinishedBy (f (5 * i)) ≡ false = rw first-number at (ne-eqb (getD l (5 * i) 0 / 2 ^ 8 % 2 ^ 8) 0 n) in
+      let kept : unfinishedBy (f (rowFrom i)) ≡ false = rw first-number at (ne-eqb (getD l (rowFrom i) 0 / 2 ^ 8 % 2 ^ 8) 0 n) in
       closed-next greatest f i (asFun l) (rw (kept, add-zero) first-number) (λ j other. ap (λ (g : ℕ → ℕ). g j) before)
 
-  pub unfinished-stored : 5 * i < length l → getD l (5 * i) 0 / 2 ^ 8 % 2 ^ 8 ≡ 0
-      → asFun (set l (5 * i) (getD l (5 * i) 0 + greatest (processBy (getD l (5 * i) 0)))) ≡ closed greatest (i + 1) f
+  pub unfinished-stored : rowFrom i < length l → getD l (rowFrom i) 0 / 2 ^ 8 % 2 ^ 8 ≡ 0
+      → asFun (set l (rowFrom i) (getD l (rowFrom i) 0 + greatest (processBy (getD l (rowFrom i) 0)))) ≡ closed greatest (i + 1) f
   unfolding asFun closedNumber unfinishedBy
   unfinished-stored room e =
-      let n : ℕ = getD l (5 * i) 0 in
-      let kept : unfinishedBy (f (5 * i)) ≡ true = rw first-number at (eq-eqb (n / 2 ^ 8 % 2 ^ 8) 0 e) in
-      closed-next greatest f i (asFun (set l (5 * i) (n + greatest (processBy n))))
-      (getD-set-same l (5 * i) (n + greatest (processBy n)) 0 room ∙ rw (kept, first-number))
-      (λ j other. getD-set-other l (5 * i) j (n + greatest (processBy n)) 0 other ∙ ap (λ (g : ℕ → ℕ). g j) before)
+      let n : ℕ = getD l (rowFrom i) 0 in
+      let kept : unfinishedBy (f (rowFrom i)) ≡ true = rw first-number at (eq-eqb (n / 2 ^ 8 % 2 ^ 8) 0 e) in
+      closed-next greatest f i (asFun (set l (rowFrom i) (n + greatest (processBy n))))
+      (getD-set-same l (rowFrom i) (n + greatest (processBy n)) 0 room ∙ rw (kept, first-number))
+      (λ j other. getD-set-other l (rowFrom i) j (n + greatest (processBy n)) 0 other ∙ ap (λ (g : ℕ → ℕ). g j) before)
 
 pub bytes-stored : (l : List ℕ) (n a b c d : ℕ) → n + 4 ≤ length l
     → set (set (set (set l n a) (n + 1) b) (n + 2) c) (n + 3) d ≡ laidAt l n 4 (a ∷ b ∷ c ∷ d ∷ [])
@@ -162,15 +163,15 @@ module _ (l : List ℕ) (f : ℕ → ℕ) where
 
 -- the header byte, two numbers, and the rows
 pub report-laid : (buf : List ℕ) (m counter : ℕ) (f : ℕ → ℕ) → 0 < length buf
-    → laidNumbers (laidAt (laidAt (set buf 0 1) 1 4 (fourBytes (4 + 20 * m))) 5 4 (fourBytes counter)) f (5 * m) ≡ laidReport m counter f buf
+    → laidNumbers (laidAt (laidAt (set buf 0 1) 1 4 (fourBytes (4 + rowLength * m))) 5 4 (fourBytes counter)) f (rowFrom m) ≡ laidReport m counter f buf
 unfolding fourBytes laidReport
 report-laid buf m counter f room =
-    let size : List ℕ = fourBytes (4 + 20 * m) in
-    let end : 9 + 4 * (5 * m) ≡ 9 + 20 * m = omega arith in
+    let size : List ℕ = fourBytes (4 + rowLength * m) in
+    let end : 9 + 4 * (rowFrom m) ≡ 9 + rowLength * m = omega arith in
     rw (
       set-split buf 0 1 room,
       laid-more (1 ∷ []) buf 1 refl 4 size,
       laid-more (1 ∷ size) buf 5 refl 4 (fourBytes counter),
-      laid-more (1 ∷ size ++ fourBytes counter) buf 9 refl (4 * (5 * m)) (numbersBytes f (5 * m)),
+      laid-more (1 ∷ size ++ fourBytes counter) buf 9 refl (4 * (rowFrom m)) (numbersBytes f (rowFrom m)),
       end,
     )

@@ -1,12 +1,20 @@
-// The report's rows as numbers, five a row, and their bytes.
+// The report's rows as numbers, and their bytes.
+use arrays::ANSWER_IN;
+use arrays::NUMBERS_IN_ROW;
+use arrays::RANK_IN;
+use arrays::SECONDS_IN;
+use arrays::STEPS_IN;
+use recording::ROW_LENGTH;
 use recording::number;
-ghost use Prim.Native.Nat.{_+_, _*_, _^_, _≤_, _<_};
+ghost use Prim.Native.Nat.{_+_, _*_, _≤_, _<_};
 ghost use mathlib.Core.Path.{_≡_};
 ghost use mathlib.Core.List.{[], _∷_};
 ghost use lib.ListN.{length};
 ghost use Rattle.recording.specs.Numbers.{fourBytes};
-ghost use Rattle.meaning.specs.Report.{one};
+ghost use Rattle.meaning.specs.Run.{mostOperations};
+ghost use Rattle.meaning.specs.Report.{one, rowLength};
 ghost use Rattle.arrays.specs.Arrays.{asFun};
+ghost use Rattle.arrays.specs.Numbers.{numbersInRow, rowFrom};
 ghost use Rattle.rows.specs.Rows.{freshNumbers, steppedNumbers, withRow, RoomToStep, RoomToClose, closed, numbersBytes, laidAt, laidReport};
 
 // 1 if so, 0 if not.
@@ -18,20 +26,20 @@ fn counted(b: bool) -> u32
 
 // Five numbers as row i.
 fn lay_row(rows: &mut [u32], i: usize, head: u32, steps: u32, answer: u32, rank: u32, seconds: u32)
-    requires { ⌜ (i < 1024) × (5 * i + 5 ≤ length (now rows)) ⌝ }
+    requires { ⌜ (i < mostOperations) × (rowFrom i + numbersInRow ≤ length (now rows)) ⌝ }
     ensures { λ r. ⌜ asFun (now (rows .exit)) ≡ withRow (asFun (now (rows .entry))) i (head ∷ steps ∷ answer ∷ rank ∷ seconds ∷ []) ⌝ }
 {
-    let at = 5 * i;
+    let at = NUMBERS_IN_ROW * i;
     rows[at] = head;
-    rows[at + 1] = steps;
-    rows[at + 2] = answer;
-    rows[at + 3] = rank;
-    rows[at + 4] = seconds;
+    rows[at + STEPS_IN] = steps;
+    rows[at + ANSWER_IN] = answer;
+    rows[at + RANK_IN] = rank;
+    rows[at + SECONDS_IN] = seconds;
 }
 
 // Row i right after its start record.
 pub fn start_row(rows: &mut [u32], i: usize, p: u8, kind: u8)
-    requires { ⌜ (i < 1024) × (5 * i + 5 ≤ length (now rows)) ⌝ }
+    requires { ⌜ (i < mostOperations) × (rowFrom i + numbersInRow ≤ length (now rows)) ⌝ }
     ensures { λ r. ⌜ asFun (now (rows .exit)) ≡ withRow (asFun (now (rows .entry))) i (freshNumbers p kind) ⌝ }
 {
     lay_row(rows, i, number(p, kind, 0, 0), 0, 0, 0, 0);
@@ -46,13 +54,13 @@ pub fn step_row(
     answer: u32,
     second: bool,
 )
-    requires { ⌜ RoomToStep (asFun (now rows)) i × (5 * i + 5 ≤ length (now rows)) ⌝ }
+    requires { ⌜ RoomToStep (asFun (now rows)) i × (rowFrom i + numbersInRow ≤ length (now rows)) ⌝ }
     ensures { λ r. ⌜ asFun (now (rows .exit)) ≡ withRow (asFun (now (rows .entry))) i (steppedNumbers (asFun (now (rows .entry))) i finished contention answer second) ⌝ }
 {
-    let at = 5 * i;
-    rows[at + 1] = rows[at + 1] + 1;
-    rows[at + 2] = answer;
-    rows[at + 4] = rows[at + 4] + counted(second);
+    let at = NUMBERS_IN_ROW * i;
+    rows[at + STEPS_IN] = rows[at + STEPS_IN] + 1;
+    rows[at + ANSWER_IN] = answer;
+    rows[at + SECONDS_IN] = rows[at + SECONDS_IN] + counted(second);
     if finished {
         rows[at] = rows[at] + 256 + contention as u32;
     }
@@ -60,14 +68,14 @@ pub fn step_row(
 
 // The first m rows at the end: an unfinished one gets the contention kept for its process.
 pub fn close(rows: &mut [u32], m: usize, greatest: &[u8])
-    requires { ⌜ (m ≤ 1024) × (5 * m ≤ length (now rows)) × RoomToClose (asFun (now rows)) m (length (now greatest)) ⌝ }
+    requires { ⌜ (m ≤ mostOperations) × (rowFrom m ≤ length (now rows)) × RoomToClose (asFun (now rows)) m (length (now greatest)) ⌝ }
     ensures { λ r. ⌜ asFun (now (rows .exit)) ≡ closed (asFun (now (greatest .entry))) m (asFun (now (rows .entry))) ⌝ }
 {
     for i in 0..m {
-        let head = rows[5 * i];
+        let head = rows[NUMBERS_IN_ROW * i];
         if head / 256 % 256 == 0 {
             let p = (head / 16777216) as usize;
-            rows[5 * i] = head + greatest[p] as u32;
+            rows[NUMBERS_IN_ROW * i] = head + greatest[p] as u32;
         }
     }
 }
@@ -85,7 +93,7 @@ pub fn lay_number(out: &mut [u8], at: usize, x: u32)
 
 // The bytes of the first k numbers, from place 9 on.
 fn lay_numbers(out: &mut [u8], k: usize, rows: &[u32])
-    requires { ⌜ (k ≤ 5120) × (k ≤ length (now rows)) × (9 + 4 * k ≤ length (now out)) ⌝ }
+    requires { ⌜ (k ≤ rowFrom mostOperations) × (k ≤ length (now rows)) × (9 + 4 * k ≤ length (now out)) ⌝ }
     ensures { λ r. ⌜ now (out .exit) ≡ laidAt (now (out .entry)) 9 (4 * k) (numbersBytes (asFun (now (rows .entry))) k) ⌝ }
 {
     for j in 0..k {
@@ -95,11 +103,11 @@ fn lay_numbers(out: &mut [u8], k: usize, rows: &[u32])
 
 // The report of m rows at the front of a buffer that has room for it.
 pub fn lay_report(out: &mut [u8], m: usize, counter: u32, rows: &[u32])
-    requires { ⌜ (m ≤ 1024) × (5 * m ≤ length (now rows)) × (9 + 20 * m ≤ length (now out)) ⌝ }
+    requires { ⌜ (m ≤ mostOperations) × (rowFrom m ≤ length (now rows)) × (9 + rowLength * m ≤ length (now out)) ⌝ }
     ensures { λ r. ⌜ now (out .exit) ≡ laidReport m counter (asFun (now (rows .entry))) (now (out .entry)) ⌝ }
 {
     out[0] = 1;
-    lay_number(out, 1, (4 + 20 * m) as u32);
+    lay_number(out, 1, (4 + ROW_LENGTH * m) as u32);
     lay_number(out, 5, counter);
-    lay_numbers(out, 5 * m, rows);
+    lay_numbers(out, NUMBERS_IN_ROW * m, rows);
 }

@@ -8,79 +8,80 @@ use lib.ListN.{length}
 use lib.Dec.{leb, ltb, eqb}
 use borrow.Author.Tests.{lt-ltb, le-ltb, eq-eqb, ne-eqb, le-leb, lt-leb}
 use Rattle.recording.specs.declared.Event.{Event}
+use Rattle.recording.specs.declared.Form.{Form}
 use Rattle.meaning.specs.Refusals.{_when_, firstOf}
-use Rattle.meaning.specs.Layout.{version, follows, height, headRefusal}
+use Rattle.meaning.specs.Shape.{formed, highestShape}
+use Rattle.meaning.specs.Layout.{version, follows, height, shapeOf, longestRecording, highestTree, tooShort, otherVersion, tooLong, falseLength, noHeight, unknownShape, headRefusal}
 use Rattle.meaning.specs.Tree.{processes}
-use Rattle.meaning.specs.Run.{processOf, isStart}
-use Rattle.rules.specs.Rules.{refusalBy}
+use Rattle.meaning.specs.Run.{processOf, isStart, mostOperations, refusalBy}
 
 -- ---- the header
 
 module _ (s : List ℕ) where
-  pub too-short : length s < 6 → 1 ≡ headRefusal s
-  unfolding headRefusal firstOf
+  pub too-short : length s < 6 → 1 ≡ headRefusal highestShape s
+  unfolding headRefusal firstOf tooShort otherVersion tooLong falseLength noHeight unknownShape shapeOf
   too-short h = simp (lt-ltb (length s) 6 h)
 
   module _ (enough : 6 ≤ length s) where
     enough? : ltb (length s) 6 ≡ false
     enough? = le-ltb (length s) 6 enough
 
-    pub other-version : (version s ≡ 1 → ⊥) → 2 ≡ headRefusal s
-    unfolding headRefusal firstOf
+    pub other-version : (version s ≡ 1 → ⊥) → 2 ≡ headRefusal highestShape s
+    unfolding headRefusal firstOf tooShort otherVersion tooLong falseLength noHeight unknownShape shapeOf
     other-version h = simp (enough?, ne-eqb (version s) 1 h)
 
     module _ (known : version s ≡ 1) where
-      pub too-long : 65536 < length s → 4 ≡ headRefusal s
-      unfolding headRefusal firstOf
-      too-long h = simp (enough?, known, lt-ltb 65536 (length s) h)
+      pub too-long : longestRecording < length s → 4 ≡ headRefusal highestShape s
+      unfolding headRefusal firstOf tooShort otherVersion tooLong falseLength noHeight unknownShape shapeOf
+      too-long h = simp (enough?, known, lt-ltb longestRecording (length s) h)
 
-      module _ (short : length s ≤ 65536) where
-        short? : ltb 65536 (length s) ≡ false
-        short? = le-ltb 65536 (length s) short
+      module _ (short : length s ≤ longestRecording) where
+        short? : ltb longestRecording (length s) ≡ false
+        short? = le-ltb longestRecording (length s) short
 
-        pub other-length : (follows s ≡ length s - 5 → ⊥) → 3 ≡ headRefusal s
-        unfolding headRefusal firstOf
+        pub other-length : (follows s ≡ length s - 5 → ⊥) → 3 ≡ headRefusal highestShape s
+        unfolding headRefusal firstOf tooShort otherVersion tooLong falseLength noHeight unknownShape shapeOf
         other-length h = simp (enough?, known, short?, ne-eqb (follows s) (length s - 5) h)
 
         module _ (right : follows s ≡ length s - 5) where
           right? : eqb (follows s) (length s - 5) ≡ true
           right? = eq-eqb (follows s) (length s - 5) right
 
-          pub no-height : height s ≡ 0 → 5 ≡ headRefusal s
-          unfolding headRefusal firstOf
+          pub no-height : height s ≡ 0 → 5 ≡ headRefusal highestShape s
+          unfolding headRefusal firstOf tooShort otherVersion tooLong falseLength noHeight unknownShape shapeOf
           no-height h = simp (enough?, known, short?, right?, h)
 
           module _ (high : 1 ≤ height s) where
             high? : eqb (height s) 0 ≡ false
             high? = ne-eqb (height s) 0 (λ e. omega arith)
 
-            pub too-high : 6 < height s → 5 ≡ headRefusal s
-            unfolding headRefusal firstOf
-            too-high h = simp (enough?, known, short?, right?, high?, lt-ltb 6 (height s) h)
+            pub too-high : highestTree < height s → 5 ≡ headRefusal highestShape s
+            unfolding headRefusal firstOf tooShort otherVersion tooLong falseLength noHeight unknownShape shapeOf
+            too-high h = simp (enough?, known, short?, right?, high?, lt-ltb highestTree (height s) h)
 
-            pub fine : height s ≤ 6 → 0 ≡ headRefusal s
-            unfolding headRefusal firstOf
-            fine h = simp (enough?, known, short?, right?, high?, le-ltb 6 (height s) h)
+            pub fine : height s ≤ highestTree → 0 ≡ headRefusal highestShape s
+            unfolding headRefusal firstOf tooShort otherVersion tooLong falseLength noHeight unknownShape shapeOf
+            fine h = simp (enough?, known, short?, right?, high?, le-ltb highestTree (height s) h)
 
 -- ---- a record
 
-module _ (h : ℕ) (e : Event) (b : Bool) (m : ℕ) where
-  pub no-such-process : 2 ^ h ≤ processOf e → 7 ≡ refusalBy h e b m
+module _ (f : Form) (e : Event) (b : Bool) (m : ℕ) where
+  pub no-such-process : 2 ^ f .height ≤ processOf e → 7 ≡ refusalBy (formed f) e b m
   unfolding refusalBy firstOf processes
-  no-such-process x = simp (le-leb (2 ^ h) (processOf e) x)
+  no-such-process x = simp (le-leb (2 ^ f .height) (processOf e) x)
 
-  module _ (inside : processOf e < 2 ^ h) where
-    inside? : leb (2 ^ h) (processOf e) ≡ false
-    inside? = lt-leb (2 ^ h) (processOf e) inside
+  module _ (inside : processOf e < 2 ^ f .height) where
+    inside? : leb (2 ^ f .height) (processOf e) ≡ false
+    inside? = lt-leb (2 ^ f .height) (processOf e) inside
 
-    pub starts : isStart e ≡ true → firstOf (8 when b ∷ 10 when leb 1024 m ∷ []) ≡ refusalBy h e b m
+    pub starts : isStart e ≡ true → firstOf (8 when b ∷ 10 when leb mostOperations m ∷ []) ≡ refusalBy (formed f) e b m
     unfolding refusalBy firstOf processes
     starts s = simp (inside?, s)
 
-    pub steps : isStart e ≡ false → b ≡ true → 0 ≡ refusalBy h e b m
+    pub steps : isStart e ≡ false → b ≡ true → 0 ≡ refusalBy (formed f) e b m
     unfolding refusalBy firstOf processes
     steps s x = simp (inside?, s, x)
 
-    pub steps-idle : isStart e ≡ false → b ≡ false → 9 ≡ refusalBy h e b m
+    pub steps-idle : isStart e ≡ false → b ≡ false → 9 ≡ refusalBy (formed f) e b m
     unfolding refusalBy firstOf processes
     steps-idle s x = simp (inside?, s, x)

@@ -1,25 +1,31 @@
 // The rules of a recording: its header, and each record by what the run keeps.
 use recording::Event;
+use recording::FIRST_RECORD;
+use recording::Form;
+use recording::HIGHEST_TREE;
+use recording::LONGEST_RECORDING;
+use recording::MOST_OPERATIONS;
 use recording::number;
 ghost use Prim.Native.Nat.{_^_, _≤_};
 ghost use mathlib.Core.Path.{_≡_};
 ghost use mathlib.Core.List.{[], _∷_};
 ghost use Rattle.meaning.specs.Refusals.{_when_, firstOf};
-ghost use Rattle.meaning.specs.Layout.{headRefusal};
-ghost use Rattle.meaning.specs.Run.{processOf, isStart};
-ghost use Rattle.rules.specs.Rules.{refusalBy};
+ghost use Rattle.meaning.specs.Shape.{formed, highestShape};
+ghost use lib.ListN.{length};
+ghost use Rattle.meaning.specs.Layout.{highestTree, told, headRefusal, firstRecord};
+ghost use Rattle.meaning.specs.Run.{processOf, isStart, refusalBy};
 
 // The refusal of the header, or 0.
 pub fn header(s: &[u8]) -> u32
-    ensures { λ r. ⌜ r ≡ headRefusal (now (s .entry)) ⌝ }
+    ensures { λ r. ⌜ r ≡ headRefusal highestShape (now (s .entry)) ⌝ }
 {
-    if s.len() < 6 {
+    if s.len() < FIRST_RECORD {
         return 1;
     }
     if s[0] != 1 {
         return 2;
     }
-    if 65536 < s.len() {
+    if LONGEST_RECORDING < s.len() {
         return 4;
     }
     let follows = number(s[1], s[2], s[3], s[4]);
@@ -29,10 +35,21 @@ pub fn header(s: &[u8]) -> u32
     if s[5] == 0 {
         return 5;
     }
-    if 6 < s[5] {
+    if HIGHEST_TREE < s[5] {
         return 5;
     }
     0
+}
+
+// The form that the header tells: version 1 is shape 0.
+pub fn form_of(s: &[u8]) -> Form
+    requires { ⌜ firstRecord ≤ length (now s) ⌝ }
+    ensures { λ r. ⌜ r ≡ told (now (s .entry)) ⌝ }
+{
+    Form {
+        height: s[5] as u32,
+        shape: 0,
+    }
 }
 
 fn wide(x: u8) -> usize
@@ -63,7 +80,7 @@ pub fn is_start(e: Event) -> bool
 
 // How many processes there are.
 fn processes(h: u32) -> usize
-    requires { ⌜ h ≤ 6 ⌝ }
+    requires { ⌜ h ≤ highestTree ⌝ }
     ensures { λ r. ⌜ r ≡ 2 ^ h ⌝ }
 {
     1usize << h
@@ -80,14 +97,14 @@ fn first_of(a: bool, x: u32, b: bool, y: u32) -> u32
 }
 
 // The refusal of a record, or 0.
-pub fn refusal(h: u32, e: Event, busy: bool, m: u32) -> u32
-    requires { ⌜ h ≤ 6 ⌝ }
-    ensures { λ r. ⌜ r ≡ refusalBy h e busy m ⌝ }
+pub fn refusal(f: Form, e: Event, busy: bool, m: u32) -> u32
+    requires { ⌜ f .height ≤ highestTree ⌝ }
+    ensures { λ r. ⌜ r ≡ refusalBy (formed f) e busy m ⌝ }
 {
-    if processes(h) <= process_of(e) {
+    if processes(f.height) <= process_of(e) {
         return 7;
     }
-    let full = 1024 <= m;
+    let full = MOST_OPERATIONS <= m;
     if is_start(e) {
         return first_of(busy, 8, full, 10);
     }

@@ -6,9 +6,6 @@ use Rattle.meaning.specs.Tree.{leafOf, processes}
 use Rattle.climb.proofs.leaf_of.Statement.{statement}
 use Rattle.climb.proofs.leaf_of.Tie as tie
 
-shl-result : tie.Need-shl-result
-shl-result c = search needs
-
 add-result : tie.Need-add-result
 add-result c = omega (arith, pow-mono (c .pre .0))
 
@@ -17,4 +14,4 @@ unfolding leafOf processes
 returns c = record { is = omega (arith, pow-mono (c .pre .0)); high = omega (arith, pow-mono (c .pre .0)) }
 
 pub leaf-of-spec : {M : Type 1} → statement M
-leaf-of-spec = tie.close (tie.spec shl-result add-result returns)
+leaf-of-spec = tie.close (tie.spec (λ c. search needs) add-result returns)

@@ -21,14 +21,8 @@ under-fits l p h k =
     let part : p / 2 ^ l < 2 ^ (6 - l) = shr-lt (6 - l) l (rw six k) in
     omega (arith, mul-le-mul-right (2 ^ l) part, suc-mul (p / 2 ^ l) (2 ^ l))
 
-shr-result : tie.Need-shr-result
-shr-result c = search needs
-
-shl-result : tie.Need-shl-result
-shl-result c = search needs
-
 returns : tie.Need-returns
 returns c = let is = under-is _ _ (c .pre .0) (c .pre .1) in (is, rw is (under-fits _ _ (c .pre .0) (c .pre .1)))
 
 pub first-under-spec : {M : Type 1} → statement M
-first-under-spec = tie.close (tie.spec shr-result shl-result returns)
+first-under-spec = tie.close (tie.spec (λ c. search needs) (λ c. search needs) returns)

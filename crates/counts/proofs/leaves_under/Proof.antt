@@ -1,14 +1,12 @@
--- `leaves_under`: no digit of 1 << l is lost.
+-- `leaves_under`: no digit of n << l is lost.
+use native.Mathlib.Omega.{arith}
+use lib.Pow.{shl-exact}
 use borrow.Author.Needs.{needs}
-use Rattle.sets.proofs.Digits.{weight}
 use Rattle.counts.proofs.leaves_under.Statement.{statement}
 use Rattle.counts.proofs.leaves_under.Tie as tie
 
-shl-result : tie.Need-shl-result
-shl-result c = search needs
-
 returns : tie.Need-returns
-returns c = weight _ (search needs)
+returns c = shl-exact 2 _ 64 (omega arith) (omega arith)
 
 pub leaves-under-spec : {M : Type 1} → statement M
-leaves-under-spec = tie.close (tie.spec shl-result returns)
+leaves-under-spec = tie.close (tie.spec (λ c. search needs) returns)

@@ -9,18 +9,9 @@ returns : tie.Need-returns
 returns c =
     sym (bytes-refused _ (c .if1 .taken))
 
-cast-result : tie.Need-cast-result
-cast-result c = search needs
-
-mul-result : tie.Need-mul-result
-mul-result c = search needs
-
-add-result : tie.Need-add-result
-add-result c = search needs
-
 returns-2 : tie.Need-returns-2
 returns-2 c =
     sym (bytes-accepted _ (c .before .if1 .left))
 
 pub bytes-of-spec : {M : Type 1} → statement M
-bytes-of-spec = tie.close (tie.spec returns cast-result mul-result add-result returns-2)
+bytes-of-spec = tie.close (tie.spec returns (λ c. search needs) (λ c. search needs) (λ c. search needs) returns-2)

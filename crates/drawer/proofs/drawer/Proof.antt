@@ -13,15 +13,9 @@ cut-all-requires : tie.Need-cut-all-requires
 cut-all-requires c κs =
     omega (arith, c .if1 .left)
 
-enum-known-at : tie.Need-enum-known-at
-enum-known-at c = search needs
-
 cast-t12 : tie.Need-cast-t12
 cast-t12 c =
     omega (arith, cut-fails _ _ _ (c .before .before .before .cut-all .ensures) (c .before .at .given .1) .1, c .before .before .before .before .if1 .left)
-
-enum-known-pieces : tie.Need-enum-known-pieces
-enum-known-pieces c = search needs
 
 measure-requires : tie.Need-measure-requires
 measure-requires c κs =
@@ -59,12 +53,6 @@ returns-4 : tie.Need-returns-4
 returns-4 c =
     not-cut _ _ _ (omega (arith, c .before .before .before .before .if1 .left)) _ (cut-fails _ _ _ (c .before .before .before .cut-all .ensures) (c .before .at .given .1) .0)
 
-same-length : tie.Need-same-length
-same-length c = search needs
-
-same-length-2 : tie.Need-same-length-2
-same-length-2 c = search needs
-
 returns-5 : tie.Need-returns-5
 returns-5 c =
     let w = cut-whole _ _ _ _ (c .before .before .before .before .before .before .before .before .before .before .before .before .before .cut-all .ensures) (c .before .before .before .before .before .before .before .before .before .before .before .pieces .given .1) in all-laid _ _ _ (omega (arith, c .before .before .before .before .before .before .before .before .before .before .before .before .before .before .if1 .left)) (w .parts) (w .cut) (c .before .before .before .before .before .before .before .before .before .measure .ensures .fits (w .parts) (w .cut) (omega (arith, c .before .before .before .before .before .before .before .before .if2 .left))) _ _ (omega (arith, length-marks (w .parts), w .number, c .before .before .before .before .before .before .before .if3 .left)) (c .before .before .before .before .lay-all .ensures)
@@ -75,9 +63,9 @@ drawer-spec =
     (tie.spec
     returns
     cut-all-requires
-    enum-known-at
+    (λ c. search needs)
     cast-t12
-    enum-known-pieces
+    (λ c. search needs)
     measure-requires
     cast-t15
     returns-2
@@ -87,6 +75,6 @@ drawer-spec =
     returns-3
     lay-all-requires
     returns-4
-    same-length
-    same-length-2
+    (λ c. search needs)
+    (λ c. search needs)
     returns-5)

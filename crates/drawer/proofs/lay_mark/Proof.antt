@@ -7,15 +7,6 @@ use borrow.Author.Needs.{needs}
 use Rattle.drawer.proofs.lay_mark.Statement.{statement}
 use Rattle.drawer.proofs.lay_mark.Tie as tie
 
-cast-marks : tie.Need-cast-marks
-cast-marks c = search needs
-
-slice-write-marks : tie.Need-slice-write-marks
-slice-write-marks c = search needs
-
-add-lay-number : tie.Need-add-lay-number
-add-lay-number c = search needs
-
 lay-number-requires : tie.Need-lay-number-requires
 lay-number-requires c κs =
     simp length-set (omega arith)
@@ -31,4 +22,4 @@ returns c =
 pub lay-mark-spec : {M : Type 1} → statement M
 lay-mark-spec =
     tie.close
-    (tie.spec cast-marks slice-write-marks add-lay-number lay-number-requires same-length returns)
+    (tie.spec (λ c. search needs) (λ c. search needs) (λ c. search needs) lay-number-requires same-length returns)

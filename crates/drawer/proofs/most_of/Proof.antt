@@ -13,12 +13,6 @@ returns-2 : tie.Need-returns-2
 returns-2 c =
     most-long _ (omega (arith, c .before .if1 .left)) (c .if2 .taken)
 
-mul-result : tie.Need-mul-result
-mul-result c = search needs
-
-add-result : tie.Need-add-result
-add-result c = search needs
-
 returns-3 : tie.Need-returns-3
 returns-3 c =
     most-between _ _ (omega arith) (omega arith) (omega arith)
@@ -28,4 +22,4 @@ returns-4 c =
     most-between _ _ (omega arith) (omega arith) (omega arith)
 
 pub most-of-spec : {M : Type 1} → statement M
-most-of-spec = tie.close (tie.spec returns returns-2 mul-result add-result returns-3 returns-4)
+most-of-spec = tie.close (tie.spec returns returns-2 (λ c. search needs) (λ c. search needs) (λ c. search needs) returns-3 returns-4)

@@ -6,24 +6,6 @@ use borrow.Author.Needs.{needs}
 use Rattle.drawer.proofs.needed.Statement.{statement}
 use Rattle.drawer.proofs.needed.Tie as tie
 
-slice-aggregate-alone : tie.Need-slice-aggregate-alone
-slice-aggregate-alone c = search needs
-
-slice-aggregate-alone-2 : tie.Need-slice-aggregate-alone-2
-slice-aggregate-alone-2 c = search needs
-
-slice-aggregate-alone-3 : tie.Need-slice-aggregate-alone-3
-slice-aggregate-alone-3 c = search needs
-
-slice-aggregate-alone-4 : tie.Need-slice-aggregate-alone-4
-slice-aggregate-alone-4 c = search needs
-
-slice-aggregate-alone-5 : tie.Need-slice-aggregate-alone-5
-slice-aggregate-alone-5 c = search needs
-
-alone-requires : tie.Need-alone-requires
-alone-requires c κs = search needs
-
 bytes-of-requires : tie.Need-bytes-of-requires
 bytes-of-requires c κs =
     few-of-ends (c .before .before .before .before .before .alone .ensures)
@@ -36,11 +18,11 @@ pub needed-spec : {M : Type 1} → statement M
 needed-spec =
     tie.close
     (tie.spec
-    slice-aggregate-alone
-    slice-aggregate-alone-2
-    slice-aggregate-alone-3
-    slice-aggregate-alone-4
-    slice-aggregate-alone-5
-    alone-requires
+    (λ c. search needs)
+    (λ c. search needs)
+    (λ c. search needs)
+    (λ c. search needs)
+    (λ c. search needs)
+    (λ c κs. search needs)
     bytes-of-requires
     returns)

@@ -6,42 +6,9 @@ use borrow.Author.Needs.{needs}
 use Rattle.drawer.proofs.size_at.Statement.{statement}
 use Rattle.drawer.proofs.size_at.Tie as tie
 
-sub-left : tie.Need-sub-left
-sub-left c = search needs
-
 returns : tie.Need-returns
 returns c =
     few-left _ _ (c .before .before .pre) (omega (arith, c .if1 .taken))
-
-add-number : tie.Need-add-number
-add-number c = search needs
-
-shared-slice-read-number : tie.Need-shared-slice-read-number
-shared-slice-read-number c = search needs
-
-add-number-2 : tie.Need-add-number-2
-add-number-2 c = search needs
-
-shared-slice-read-number-2 : tie.Need-shared-slice-read-number-2
-shared-slice-read-number-2 c = search needs
-
-add-number-3 : tie.Need-add-number-3
-add-number-3 c = search needs
-
-shared-slice-read-number-3 : tie.Need-shared-slice-read-number-3
-shared-slice-read-number-3 c = search needs
-
-add-number-4 : tie.Need-add-number-4
-add-number-4 c = search needs
-
-shared-slice-read-number-4 : tie.Need-shared-slice-read-number-4
-shared-slice-read-number-4 c = search needs
-
-number-requires : tie.Need-number-requires
-number-requires c κs = search needs
-
-size-within-requires : tie.Need-size-within-requires
-size-within-requires c κs = search needs
 
 returns-2 : tie.Need-returns-2
 returns-2 c =
@@ -51,16 +18,16 @@ pub size-at-spec : {M : Type 1} → statement M
 size-at-spec =
     tie.close
     (tie.spec
-    sub-left
+    (λ c. search needs)
     returns
-    add-number
-    shared-slice-read-number
-    add-number-2
-    shared-slice-read-number-2
-    add-number-3
-    shared-slice-read-number-3
-    add-number-4
-    shared-slice-read-number-4
-    number-requires
-    size-within-requires
+    (λ c. search needs)
+    (λ c. search needs)
+    (λ c. search needs)
+    (λ c. search needs)
+    (λ c. search needs)
+    (λ c. search needs)
+    (λ c. search needs)
+    (λ c. search needs)
+    (λ c κs. search needs)
+    (λ c κs. search needs)
     returns-2)

@@ -5,9 +5,6 @@ use borrow.Author.Needs.{needs}
 use Rattle.drawer.proofs.size_within.Statement.{statement}
 use Rattle.drawer.proofs.size_within.Tie as tie
 
-add-size : tie.Need-add-size
-add-size c = search needs
-
 returns : tie.Need-returns
 returns c =
     passes-end _ _ (c .if1 .taken)
@@ -17,4 +14,4 @@ returns-2 c =
     stays-within _ _ (omega (arith, c .if1 .left))
 
 pub size-within-spec : {M : Type 1} → statement M
-size-within-spec = tie.close (tie.spec add-size returns returns-2)
+size-within-spec = tie.close (tie.spec (λ c. search needs) returns returns-2)

@@ -5,15 +5,6 @@ use Rattle.engine.specs.Ends.{addsOf}
 use Rattle.engine.proofs.adds.Statement.{statement}
 use Rattle.engine.proofs.adds.Tie as tie
 
-enum-told : tie.Need-enum-told
-enum-told c = search needs
-
-enum-told-2 : tie.Need-enum-told-2
-enum-told-2 c = search needs
-
-enum-told-3 : tie.Need-enum-told-3
-enum-told-3 c = search needs
-
 returns : tie.Need-returns
 unfolding addsOf
 returns c = sym (ap addsOf (c .enum-told .given .1))
@@ -27,4 +18,4 @@ unfolding addsOf
 returns-3 c = sym (ap addsOf (c .enum-told3 .given .1))
 
 pub adds-spec : {M : Type 1} → statement M
-adds-spec = tie.close (tie.spec enum-told enum-told-2 enum-told-3 returns returns-2 returns-3)
+adds-spec = tie.close (tie.spec (λ c. search needs) (λ c. search needs) (λ c. search needs) returns returns-2 returns-3)

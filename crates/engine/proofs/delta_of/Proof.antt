@@ -5,15 +5,6 @@ use Rattle.engine.specs.Ends.{deltaOf}
 use Rattle.engine.proofs.delta_of.Statement.{statement}
 use Rattle.engine.proofs.delta_of.Tie as tie
 
-enum-told : tie.Need-enum-told
-enum-told c = search needs
-
-enum-told-2 : tie.Need-enum-told-2
-enum-told-2 c = search needs
-
-enum-known-e : tie.Need-enum-known-e
-enum-known-e c = search needs
-
 returns : tie.Need-returns
 unfolding deltaOf
 returns c = sym (ap deltaOf (c .enum-told .given .1))
@@ -27,4 +18,4 @@ unfolding deltaOf
 returns-3 c = sym (ap deltaOf (c .before .e .given .1))
 
 pub delta-of-spec : {M : Type 1} → statement M
-delta-of-spec = tie.close (tie.spec enum-told enum-told-2 enum-known-e returns returns-2 returns-3)
+delta-of-spec = tie.close (tie.spec (λ c. search needs) (λ c. search needs) (λ c. search needs) returns returns-2 returns-3)

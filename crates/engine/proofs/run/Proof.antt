@@ -3,8 +3,10 @@ use Prim.Native.Nat.{_+_, _-_}
 use mathlib.Core.Path.{refl}
 use lib.ListN.{length}
 use Rattle.arrays.specs.Arrays.{asFun}
+use Rattle.climb.specs.Climb.{nowhere}
 use Rattle.machine.specs.Arrays.{idleRecord}
 use Rattle.keeping.specs.Keeping.{keptOf}
+use Rattle.engine.proofs.Agrees.{still-write}
 use Rattle.engine.proofs.Room.{can-keep, can-close, Same, room-still}
 use Rattle.engine.proofs.Runs.{RunsKept, runs-stopped, inside, low, acting, room, can-step, runs-kept-step, runs-kept-start, ends-accepted, ends-refused}
 use Rattle.engine.proofs.Loop.{begins-kept, kept-started}
@@ -28,23 +30,23 @@ empty-requires c κs = search needs
 
 loop-holds : tie.Need-loop-holds Inv-loop μ-loop
 loop-holds c = (
-  begins-kept ((c .before .before .before .before .before .before .before .args) .s .now) ((c .before .before .before .before .before .before .before .args) .h) ((c .before .idle) .result) ((c .empty) .result) ((c .before .before .before .before .before .before .before .pre) .0) ((c .before .before .before .before .before .before .before .pre) .1) ((c .before .before .before .before .before .before .before .pre) .2) ((c .before .idle) .ensures) ((c .empty) .ensures) 128 64 64 refl ((c .before .before .before .before .before .before .before .args) .asked) ((c .before .before .before .before .before .before .before .args) .read .now) ((c .before .before .before .before .before .before .before .args) .queue .now) ((c .before .before .before .before .before .before .before .args) .turns .now) ((c .before .before .before .before .before .before .before .args) .rows .now) (asFun ((c .before .before .before .before .before .before .before .args) .greatest .now)) 6 64,
+  begins-kept ((c .before .before .before .before .before .before .before .args) .s .now) ((c .before .before .before .before .before .before .before .args) .f) ((c .before .idle) .result) ((c .empty) .result) ((c .before .before .before .before .before .before .before .pre) .0) ((c .before .before .before .before .before .before .before .pre) .1) ((c .before .idle) .ensures) ((c .empty) .ensures) 128 64 64 refl ((c .before .before .before .before .before .before .before .args) .asked) ((c .before .before .before .before .before .before .before .args) .read .now) ((c .before .before .before .before .before .before .before .args) .queue .now) ((c .before .before .before .before .before .before .before .args) .turns .now) ((c .before .before .before .before .before .before .before .args) .rows .now) (asFun ((c .before .before .before .before .before .before .before .args) .greatest .now)) 6 64,
   record { ofRead = refl; ofQueue = refl; ofTurns = refl; ofRows = refl; ofGreatest = refl },
 )
 
 try-at-requires : tie.Need-try-at-requires Inv-loop μ-loop
 try-at-requires c κs =
-    (c .before .before .before .before .before .before .before .before .pre) .1
+    (c .before .before .before .before .before .before .before .before .pre) .0 .high
 
 enum-told : tie.Need-enum-told Inv-loop μ-loop
 enum-told c = search needs
 
 close-rows-requires : tie.Need-close-rows-requires Inv-loop μ-loop
 close-rows-requires c κs =
-    λ a. let K = (c .before .before .before .before .before .loop) .inv .0 in let r = room-still _ _ ((c .before .before .before .before .before .loop) .inv .1) ((c .before .before .before .before .before .before .before .before .before .before .before .before .before .pre) .4 a .0) in (
+    λ a. let K = (c .before .before .before .before .before .loop) .inv .0 in let r = room-still _ _ ((c .before .before .before .before .before .loop) .inv .1) ((c .before .before .before .before .before .before .before .before .before .before .before .before .before .pre) .3 a .0) in (
       omega (arith, K .runs .agrees .operations, K .runs .agrees .good .few),
       omega (arith, r .sizes .rowsFit, r .operations ((c .before .before .before .before .before .loop) .m) (omega (arith, K .runs .agrees .operations, K .runs .agrees .good .few)) (omega (arith, K .runs .agrees .started, K .runs .within))),
-      can-close _ _ _ _ _ _ _ _ _ _ (K .runs .agrees .good) (K .ledger a) _ _ (K .runs .agrees .operations) (omega (arith, (c .before .before .before .before .before .loop) .inv .1 .ofGreatest, (c .before .before .before .before .before .before .before .before .before .before .before .before .before .pre) .4 a .1)),
+      can-close _ _ _ _ _ _ _ _ _ _ (K .runs .agrees .good) (K .ledger a) _ _ (K .runs .agrees .operations) (omega (arith, (c .before .before .before .before .before .loop) .inv .1 .ofGreatest, (c .before .before .before .before .before .before .before .before .before .before .before .before .before .pre) .3 a .1)),
     )
 
 array-read-counter : tie.Need-array-read-counter Inv-loop μ-loop
@@ -79,7 +81,7 @@ enum-known-number c = search needs
 
 refused-requires : tie.Need-refused-requires Inv-loop μ-loop
 refused-requires c κs =
-    omega (arith, (tried-stopped _ _ _ _ _ _ ((c .before .before .before .try-at) .ensures) _ _ ((c .before .number) .given .1)) .inside, (c .before .before .before .before .before .before .before .before .before .before .before .before .pre) .3)
+    omega (arith, (tried-stopped _ _ _ _ _ _ ((c .before .before .before .try-at) .ensures) _ _ ((c .before .number) .given .1)) .inside, (c .before .before .before .before .before .before .before .before .before .before .before .before .pre) .2)
 
 same-length-6 : tie.Need-same-length-6 Inv-loop μ-loop
 same-length-6 c =
@@ -130,7 +132,7 @@ start-row-requires : tie.Need-start-row-requires Inv-loop μ-loop
 start-row-requires c κs = (
   room _ _ _ _ _ _ _ _ ((c .before .before .before .before .before .before .before .before .loop) .inv .0 .runs) _ _ _ _ (tried-start _ _ _ _ _ _ ((c .before .before .before .before .before .before .before .try-at) .ensures) _ _ _ _ ((c .before .before .before .before .before .p) .given .1)),
   low _ _ _ _ _ _ _ _ ((c .before .before .before .before .before .before .before .before .loop) .inv .0 .runs) _ _ _ ((tried-start _ _ _ _ _ _ ((c .before .before .before .before .before .before .before .try-at) .ensures) _ _ _ _ ((c .before .before .before .before .before .p) .given .1)) .goes),
-  λ a. let w = (tried-start _ _ _ _ _ _ ((c .before .before .before .before .before .before .before .try-at) .ensures) _ _ _ _ ((c .before .before .before .before .before .p) .given .1)) .goes .stands in let r = (room-still _ _ ((c .before .before .before .before .before .before .before .before .loop) .inv .1) ((c .before .before .before .before .before .before .before .before .before .before .before .before .before .before .before .before .pre) .4 a .0)) in (omega (arith, r .sizes .rowsFit, r .operations ((c .before .before .before .before .before .before .before .before .loop) .m + 1) (omega (arith, room _ _ _ _ _ _ _ _ ((c .before .before .before .before .before .before .before .before .loop) .inv .0 .runs) _ _ _ _ (tried-start _ _ _ _ _ _ ((c .before .before .before .before .before .before .before .try-at) .ensures) _ _ _ _ ((c .before .before .before .before .before .p) .given .1)))) (omega (arith, (c .before .before .before .before .before .before .before .before .loop) .inv .0 .runs .agrees .started, w .further, w .within))), omega (arith, (c .before .before .before .before .before .before .before .before .loop) .inv .1 .ofGreatest, (c .before .before .before .before .before .before .before .before .before .before .before .before .before .before .before .before .pre) .4 a .1)),
+  λ a. let w = (tried-start _ _ _ _ _ _ ((c .before .before .before .before .before .before .before .try-at) .ensures) _ _ _ _ ((c .before .before .before .before .before .p) .given .1)) .goes .stands in let r = (room-still _ _ ((c .before .before .before .before .before .before .before .before .loop) .inv .1) ((c .before .before .before .before .before .before .before .before .before .before .before .before .before .before .before .before .pre) .3 a .0)) in (omega (arith, r .sizes .rowsFit, r .operations ((c .before .before .before .before .before .before .before .before .loop) .m + 1) (omega (arith, room _ _ _ _ _ _ _ _ ((c .before .before .before .before .before .before .before .before .loop) .inv .0 .runs) _ _ _ _ (tried-start _ _ _ _ _ _ ((c .before .before .before .before .before .before .before .try-at) .ensures) _ _ _ _ ((c .before .before .before .before .before .p) .given .1)))) (omega (arith, (c .before .before .before .before .before .before .before .before .loop) .inv .0 .runs .agrees .started, w .further, w .within))), omega (arith, (c .before .before .before .before .before .before .before .before .loop) .inv .1 .ofGreatest, (c .before .before .before .before .before .before .before .before .before .before .before .before .before .before .before .before .pre) .3 a .1)),
 )
 
 add-m : tie.Need-add-m Inv-loop μ-loop
@@ -159,14 +161,23 @@ array-copy-out-r c =
     low _ _ _ _ _ _ _ _ ((c .before .before .before .before .loop) .inv .0 .runs) _ _ _ (tried-step _ _ _ _ _ _ ((c .before .before .before .try-at) .ensures) _ _ ((c .before .p2) .given .1))
 
 next-requires : tie.Need-next-requires Inv-loop μ-loop
-unfolding idleRecord
+unfolding idleRecord nowhere
 next-requires c κs =
     can-step _ _ _ _ _ _ _ _ ((c .before .before .before .before .before .before .before .loop) .inv .0 .runs) _ _ (tried-step _ _ _ _ _ _ ((c .before .before .before .before .before .before .try-at) .ensures) _ _ ((c .before .before .before .before .p2) .given .1))
 
 keep-step-requires : tie.Need-keep-step-requires Inv-loop μ-loop
-unfolding idleRecord
+unfolding idleRecord nowhere
 keep-step-requires c κs =
-    λ a. let w = (tried-step _ _ _ _ _ _ ((c .before .before .before .before .before .before .before .before .before .before .before .before .before .before .try-at) .ensures) _ _ ((c .before .before .before .before .before .before .before .before .before .before .before .before .p2) .given .1)) .stands in can-keep _ _ _ _ _ _ _ _ _ _ _ _ _ _ _ _ _ ((c .before .before .before .before .before .before .before .before .before .before .before .before .before .before .before .loop) .inv .0 .runs .agrees) ((c .before .before .before .before .before .before .before .before .before .before .before .before .before .before .before .loop) .inv .0 .ledger a) _ (inside _ _ _ _ _ _ _ _ ((c .before .before .before .before .before .before .before .before .before .before .before .before .before .before .before .loop) .inv .0 .runs) _ _ _ (tried-step _ _ _ _ _ _ ((c .before .before .before .before .before .before .before .before .before .before .before .before .before .before .try-at) .ensures) _ _ ((c .before .before .before .before .before .before .before .before .before .before .before .before .p2) .given .1))) (acting _ _ _ _ _ _ _ _ ((c .before .before .before .before .before .before .before .before .before .before .before .before .before .before .before .loop) .inv .0 .runs) _ _ _ (tried-step _ _ _ _ _ _ ((c .before .before .before .before .before .before .before .before .before .before .before .before .before .before .try-at) .ensures) _ _ ((c .before .before .before .before .before .before .before .before .before .before .before .before .p2) .given .1)) refl) (omega (arith, w .further, w .within)) ((c .before .before .before .before .before .before .before .before .before .before .before .before .before .before .before .before .before .before .before .before .before .before .before .pre) .3) (room-still _ _ ((c .before .before .before .before .before .before .before .before .before .before .before .before .before .before .before .loop) .inv .1) ((c .before .before .before .before .before .before .before .before .before .before .before .before .before .before .before .before .before .before .before .before .before .before .before .pre) .4 a .0)) (omega (arith, (c .before .before .before .before .before .before .before .before .before .before .before .before .before .before .before .loop) .inv .1 .ofGreatest, (c .before .before .before .before .before .before .before .before .before .before .before .before .before .before .before .before .before .before .before .before .before .before .before .pre) .4 a .1))
+    λ a.
+    let at = c .before .before .before .before .before .before .before .before .before .before .before .before .before .before .before in
+    let loop = at .loop in
+    let pre = c .before .before .before .before .before .before .before .before .before .before .before .before .before .before .before .before .before .before .before .before .before .before .before .pre in
+    let g = tried-step _ _ _ _ _ _ (c .before .before .before .before .before .before .before .before .before .before .before .before .before .before .try-at .ensures) _ _ (c .before .before .before .before .before .before .before .before .before .before .before .before .p2 .given .1) in
+    let runs = loop .inv .0 .runs in
+    let its = inside _ _ _ _ _ _ _ _ runs _ _ _ g in
+    let acts = acting _ _ _ _ _ _ _ _ runs _ _ _ g refl in
+    can-keep _ _ _ _ _ _ _ _ _ _ _ _ _ _ _ _ _ (runs .agrees) (loop .inv .0 .ledger a) _ its acts (omega (arith, g .stands .further, g .stands .within)) (pre .2) (room-still _ _ (loop .inv .1) (pre .3 a .0))
+    (omega (arith, loop .inv .1 .ofGreatest, pre .3 a .1)) _ (still-write _ _ _ _ _ _ _ _ (runs .agrees) _ its acts _ _ _ (c .before .before .before .before .before .before .before .next .ensures))
 
 mul-procs-2 : tie.Need-mul-procs-2 Inv-loop μ-loop
 mul-procs-2 c =
@@ -184,7 +195,7 @@ loop-less-2 c =
     let w = (tried-step _ _ _ _ _ _ ((c .before .before .before .before .before .before .before .before .before .before .before .before .before .before .before .before .before .before .before .before .before .before .before .try-at) .ensures) _ _ ((c .before .before .before .before .before .before .before .before .before .before .before .before .before .before .before .before .before .before .before .before .before .p2) .given .1)) .stands in omega (arith, w .further, w .within)
 
 loop-again-2 : tie.Need-loop-again-2 Inv-loop μ-loop
-unfolding idleRecord
+unfolding idleRecord nowhere
 loop-again-2 c = (
   runs-kept-step _ _ _ _ _ _ _ _ ((c .before .before .before .before .before .before .before .before .before .before .before .before .before .before .before .before .before .before .before .before .before .before .before .before .loop) .inv .0 .runs) _ _ (tried-step _ _ _ _ _ _ ((c .before .before .before .before .before .before .before .before .before .before .before .before .before .before .before .before .before .before .before .before .before .before .before .try-at) .ensures) _ _ ((c .before .before .before .before .before .before .before .before .before .before .before .before .before .before .before .before .before .before .before .before .before .p2) .given .1)) _ _ _ ((c .before .before .before .before .before .before .before .before .before .before .before .before .before .before .before .before .next) .ensures) _ _ refl ((c .busy-after) .ensures) _ _ _ _ ((c .before .before .before .before .before .before .before .before .before .before .before .before .before .before .before .before .before .before .before .before .before .before .before .before .loop) .inv .0 .ledger) ((c .before .before .before .before .before .before .before .before .keep-step) .ensures),
   let w = (c .before .before .before .before .before .before .before .before .before .before .before .before .before .before .before .before .before .before .before .before .before .before .before .before .loop) .inv .1 in let k = (c .before .before .before .before .before .before .before .before .keep-step) .kept in record { ofRead = omega (arith, k, w .ofRead); ofQueue = omega (arith, k, w .ofQueue); ofTurns = omega (arith, k, w .ofTurns); ofRows = omega (arith, k, w .ofRows); ofGreatest = w .ofGreatest },

@@ -4,34 +4,22 @@ use mathlib.Core.Path.{sym, _∙_}
 use mathlib.Core.Bool.{true, false}
 use Rattle.sets.specs.Processes.{isIn}
 use Rattle.sets.proofs.Laws.{count-le}
-use Rattle.ledger.proofs.Good.{false-true}
+use Rattle.history.proofs.Turns.{false-true}
 use Rattle.engine.proofs.Fresh.{kind-of, fresh-row, raised-by}
 use native.Mathlib.Omega.{arith}
 use borrow.Author.Needs.{needs}
 use Rattle.engine.proofs.start_row.Statement.{statement}
 use Rattle.engine.proofs.start_row.Tie as tie
 
-cast-start-row : tie.Need-cast-start-row
-cast-start-row c = search needs
-
 start-row-requires : tie.Need-start-row-requires
 start-row-requires c κs =
     ((c .before .before .before .before .before .pre) .0, ((c .before .before .before .before .before .pre) .2 ((c .before .before .if1) .taken)) .0)
-
-count-requires : tie.Need-count-requires
-count-requires c κs = search needs
 
 cast-raise : tie.Need-cast-raise
 cast-raise c = omega (arith, c .count .ensures, count-le 64 (isIn (c .before .before .before .before .before .before .before .before .before .before .args .busy)))
 
 raise-requires : tie.Need-raise-requires
 raise-requires c κs = ((c .before .before .before .before .before .before .before .before .before .before .pre) .1, ((c .before .before .before .before .before .before .before .before .before .before .pre) .2 ((c .before .before .before .before .before .before .before .if1) .taken)) .1)
-
-same-length : tie.Need-same-length
-same-length c = search needs
-
-same-length-2 : tie.Need-same-length-2
-same-length-2 c = search needs
 
 returns : tie.Need-returns
 returns c =
@@ -49,12 +37,12 @@ pub start-row-spec : {M : Type 1} → statement M
 start-row-spec =
     tie.close
     (tie.spec
-    cast-start-row
+    (λ c. search needs)
     start-row-requires
-    count-requires
+    (λ c κs. search needs)
     cast-raise
     raise-requires
-    same-length
-    same-length-2
+    (λ c. search needs)
+    (λ c. search needs)
     returns
     returns-2)

@@ -5,39 +5,9 @@ use borrow.Author.Needs.{needs}
 use Rattle.engine.proofs.try_at.Statement.{statement}
 use Rattle.engine.proofs.try_at.Tie as tie
 
-cut-at-requires : tie.Need-cut-at-requires
-cut-at-requires c κs = search needs
-
-enum-told : tie.Need-enum-told
-enum-told c = search needs
-
-enum-known-place : tie.Need-enum-known-place
-enum-known-place c = search needs
-
-enum-known-e : tie.Need-enum-known-e
-enum-known-e c = search needs
-
-process-of-requires : tie.Need-process-of-requires
-process-of-requires c κs = search needs
-
-has-requires : tie.Need-has-requires
-has-requires c κs = search needs
-
-refusal-requires : tie.Need-refusal-requires
-refusal-requires c κs = search needs
-
 returns : tie.Need-returns
 returns c =
     tries-refused _ _ _ _ _ _ _ _ _ _ _ ((c .before .before .before .before .before .before .before .cut-at) .ensures) ((c .before .before .before .before .before .e) .given .1) ((c .before .before .before .process-of) .ensures) ((c .before .before .has) .ensures) ((c .before .refusal) .ensures) (λ z. omega (arith, (c .if1) .taken))
-
-is-start-requires : tie.Need-is-start-requires
-is-start-requires c κs = search needs
-
-adds-requires : tie.Need-adds-requires
-adds-requires c κs = search needs
-
-delta-of-requires : tie.Need-delta-of-requires
-delta-of-requires c κs = search needs
 
 returns-2 : tie.Need-returns-2
 returns-2 c =
@@ -59,17 +29,17 @@ pub try-at-spec : {M : Type 1} → statement M
 try-at-spec =
     tie.close
     (tie.spec
-    cut-at-requires
-    enum-told
-    enum-known-place
-    enum-known-e
-    process-of-requires
-    has-requires
-    refusal-requires
+    (λ c κs. search needs)
+    (λ c. search needs)
+    (λ c. search needs)
+    (λ c. search needs)
+    (λ c κs. search needs)
+    (λ c κs. search needs)
+    (λ c κs. search needs)
     returns
-    is-start-requires
-    adds-requires
-    delta-of-requires
+    (λ c κs. search needs)
+    (λ c κs. search needs)
+    (λ c κs. search needs)
     returns-2
     returns-3
     returns-4

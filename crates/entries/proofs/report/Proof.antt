@@ -3,16 +3,13 @@ use mathlib.Core.Path.{refl, sym, _∙_}
 use lib.Pow.{pow-mono}
 use Rattle.meaning.specs.Layout.{height}
 use Rattle.meaning.specs.Report.{answerWith, bufferWith}
-use Rattle.rules.proofs.Laws.{header-passes}
+use Rattle.history.proofs.Passing.{header-passes}
 use Rattle.entries.specs.Promises.{answerOf}
 use Rattle.engine.proofs.Whole.{head-refused}
 use Rattle.entries.proofs.Answers.{reports}
 use borrow.Author.Needs.{needs}
 use Rattle.entries.proofs.report.Statement.{statement}
 use Rattle.entries.proofs.report.Tie as tie
-
-header-requires : tie.Need-header-requires
-header-requires c κs = search needs
 
 returns : tie.Need-returns
 unfolding answerWith bufferWith answerOf
@@ -21,71 +18,44 @@ returns c =
 
 shared-slice-read-if2 : tie.Need-shared-slice-read-if2
 shared-slice-read-if2 c =
-    header-passes _ (sym ((c .before .before .header) .ensures) ∙ (c .before .if1) .left) .enough
-
-slice-aggregate-report-with : tie.Need-slice-aggregate-report-with
-slice-aggregate-report-with c = search needs
+    header-passes _ _ (sym ((c .before .before .header) .ensures) ∙ (c .before .if1) .left) .enough
 
 report-with-requires : tie.Need-report-with-requires
 unfolding height
 report-with-requires c κs =
     ((sym ((c .before .before .before .before .before .header) .ensures) ∙ (c .before .before .before .before .if1) .left), pow-mono {j = 3} ((c .before .before .if2) .taken))
 
-same-length : tie.Need-same-length
-same-length c = search needs
-
-returns-2 : tie.Need-returns-2
-returns-2 c = search needs
-
 shared-slice-read-if3 : tie.Need-shared-slice-read-if3
 shared-slice-read-if3 c =
-    header-passes _ (sym ((c .before .before .before .before .header) .ensures) ∙ (c .before .before .before .if1) .left) .enough
-
-slice-aggregate-report-with-2 : tie.Need-slice-aggregate-report-with-2
-slice-aggregate-report-with-2 c = search needs
+    header-passes _ _ (sym ((c .before .before .before .before .header) .ensures) ∙ (c .before .before .before .if1) .left) .enough
 
 report-with-requires-2 : tie.Need-report-with-requires-2
 unfolding height
 report-with-requires-2 c κs =
     ((sym ((c .before .before .before .before .before .before .before .header) .ensures) ∙ (c .before .before .before .before .before .before .if1) .left), pow-mono {j = 5} ((c .before .before .if3) .taken))
 
-same-length-2 : tie.Need-same-length-2
-same-length-2 c = search needs
-
-returns-3 : tie.Need-returns-3
-returns-3 c = search needs
-
-slice-aggregate-report-with-3 : tie.Need-slice-aggregate-report-with-3
-slice-aggregate-report-with-3 c = search needs
-
 report-with-requires-3 : tie.Need-report-with-requires-3
 unfolding height
 report-with-requires-3 c κs =
-    ((sym ((c .before .before .before .before .before .before .before .header) .ensures) ∙ (c .before .before .before .before .before .before .if1) .left), pow-mono {j = 6} (header-passes _ (sym ((c .before .before .before .before .before .before .before .header) .ensures) ∙ (c .before .before .before .before .before .before .if1) .left) .low))
-
-same-length-3 : tie.Need-same-length-3
-same-length-3 c = search needs
-
-returns-4 : tie.Need-returns-4
-returns-4 c = search needs
+    ((sym ((c .before .before .before .before .before .before .before .header) .ensures) ∙ (c .before .before .before .before .before .before .if1) .left), pow-mono {j = 6} (header-passes _ _ (sym ((c .before .before .before .before .before .before .before .header) .ensures) ∙ (c .before .before .before .before .before .before .if1) .left) .low))
 
 pub report-spec : {M : Type 1} → statement M
 report-spec =
     tie.close
     (tie.spec
-    header-requires
+    (λ c κs. search needs)
     returns
     shared-slice-read-if2
-    slice-aggregate-report-with
+    (λ c. search needs)
     report-with-requires
-    same-length
-    returns-2
+    (λ c. search needs)
+    (λ c. search needs)
     shared-slice-read-if3
-    slice-aggregate-report-with-2
+    (λ c. search needs)
     report-with-requires-2
-    same-length-2
-    returns-3
-    slice-aggregate-report-with-3
+    (λ c. search needs)
+    (λ c. search needs)
+    (λ c. search needs)
     report-with-requires-3
-    same-length-3
-    returns-4)
+    (λ c. search needs)
+    (λ c. search needs))

@@ -4,12 +4,9 @@ use Rattle.meaning.specs.Printed.{text}
 use Rattle.lines.proofs.end_line.Statement.{statement}
 use Rattle.lines.proofs.end_line.Tie as tie
 
-lay-byte-requires : tie.Need-lay-byte-requires
-lay-byte-requires c κs = search needs
-
 returns : tie.Need-returns
 unfolding text
 returns c = (c .lay-byte .ensures, search needs)
 
 pub end-line-spec : {M : Type 1} → statement M
-end-line-spec = tie.close (tie.spec lay-byte-requires returns)
+end-line-spec = tie.close (tie.spec (λ c κs. search needs) returns)

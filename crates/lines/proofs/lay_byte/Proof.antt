@@ -5,14 +5,8 @@ use Rattle.laying.proofs.Laid.{lays-byte}
 use Rattle.lines.proofs.lay_byte.Statement.{statement}
 use Rattle.lines.proofs.lay_byte.Tie as tie
 
-element-write-out : tie.Need-element-write-out
-element-write-out c = search needs
-
-add-result : tie.Need-add-result
-add-result c = search needs
-
 returns : tie.Need-returns
 returns c = lays-byte _ _ _ (omega arith)
 
 pub lay-byte-spec : {M : Type 1} → statement M
-lay-byte-spec = tie.close (tie.spec element-write-out add-result returns)
+lay-byte-spec = tie.close (tie.spec (λ c. search needs) (λ c. search needs) returns)

@@ -9,9 +9,6 @@ use native.Mathlib.Omega.{arith}
 use Rattle.lines.proofs.lay_field.Statement.{statement}
 use Rattle.lines.proofs.lay_field.Tie as tie
 
-lay-byte-requires : tie.Need-lay-byte-requires
-lay-byte-requires c κs = search needs
-
 lay-decimal-requires : tie.Need-lay-decimal-requires
 lay-decimal-requires c κs = room-left _ (c .before .before .before .pre) (c .before .lay-byte .ensures) (omega (arith, decimal-few (c .before .before .before .args .n)))
 
@@ -20,4 +17,4 @@ unfolding field text
 returns c = (lays-then (c .before .before .lay-byte .ensures) (c .lay-decimal .ensures .0), search needs)
 
 pub lay-field-spec : {M : Type 1} → statement M
-lay-field-spec = tie.close (tie.spec lay-byte-requires lay-decimal-requires returns)
+lay-field-spec = tie.close (tie.spec (λ c κs. search needs) lay-decimal-requires returns)

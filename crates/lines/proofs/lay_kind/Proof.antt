@@ -7,22 +7,10 @@ use Rattle.laying.proofs.Laid.{lays-as}
 use Rattle.lines.proofs.lay_kind.Statement.{statement}
 use Rattle.lines.proofs.lay_kind.Tie as tie
 
-slice-aggregate-lay-word : tie.Need-slice-aggregate-lay-word
-slice-aggregate-lay-word c = search needs
-
-lay-word-requires : tie.Need-lay-word-requires
-lay-word-requires c κs = search needs
-
 returns : tie.Need-returns
 unfolding kindText text
 returns c =
     (lays-as (rw (eq-eqb _ 2 (c .before .before .before .if1 .taken))) (c .lay-word .ensures), search needs)
-
-slice-aggregate-lay-word-2 : tie.Need-slice-aggregate-lay-word-2
-slice-aggregate-lay-word-2 c = search needs
-
-lay-word-requires-2 : tie.Need-lay-word-requires-2
-lay-word-requires-2 c κs = search needs
 
 returns-2 : tie.Need-returns-2
 unfolding kindText text
@@ -33,9 +21,9 @@ pub lay-kind-spec : {M : Type 1} → statement M
 lay-kind-spec =
     tie.close
     (tie.spec
-    slice-aggregate-lay-word
-    lay-word-requires
+    (λ c. search needs)
+    (λ c κs. search needs)
     returns
-    slice-aggregate-lay-word-2
-    lay-word-requires-2
+    (λ c. search needs)
+    (λ c κs. search needs)
     returns-2)

@@ -6,24 +6,6 @@ use Rattle.lines.proofs.Texts.{line-parts}
 use Rattle.lines.proofs.lay_line.Statement.{statement}
 use Rattle.lines.proofs.lay_line.Tie as tie
 
-lay-word-requires : tie.Need-lay-word-requires
-lay-word-requires c κs = search needs
-
-lay-field-requires : tie.Need-lay-field-requires
-lay-field-requires c κs = search needs
-
-lay-byte-requires : tie.Need-lay-byte-requires
-lay-byte-requires c κs = search needs
-
-lay-word-requires-2 : tie.Need-lay-word-requires-2
-lay-word-requires-2 c κs = search needs
-
-lay-field-requires-2 : tie.Need-lay-field-requires-2
-lay-field-requires-2 c κs = search needs
-
-end-line-requires : tie.Need-end-line-requires
-end-line-requires c κs = search needs
-
 returns : tie.Need-returns
 unfolding text
 returns c =
@@ -40,10 +22,10 @@ pub lay-line-spec : {M : Type 1} → statement M
 lay-line-spec =
     tie.close
     (tie.spec
-    lay-word-requires
-    lay-field-requires
-    lay-byte-requires
-    lay-word-requires-2
-    lay-field-requires-2
-    end-line-requires
+    (λ c κs. search needs)
+    (λ c κs. search needs)
+    (λ c κs. search needs)
+    (λ c κs. search needs)
+    (λ c κs. search needs)
+    (λ c κs. search needs)
     returns)

@@ -7,45 +7,6 @@ use Rattle.laying.proofs.Laid.{lays-then, lays-as}
 use Rattle.lines.proofs.lay_numbers.Statement.{statement}
 use Rattle.lines.proofs.lay_numbers.Tie as tie
 
-add-number-at : tie.Need-add-number-at
-add-number-at c = search needs
-
-number-at-requires : tie.Need-number-at-requires
-number-at-requires c κs = search needs
-
-lay-field-requires : tie.Need-lay-field-requires
-lay-field-requires c κs = search needs
-
-add-number-at-2 : tie.Need-add-number-at-2
-add-number-at-2 c = search needs
-
-number-at-requires-2 : tie.Need-number-at-requires-2
-number-at-requires-2 c κs = search needs
-
-lay-field-requires-2 : tie.Need-lay-field-requires-2
-lay-field-requires-2 c κs = search needs
-
-add-number-at-3 : tie.Need-add-number-at-3
-add-number-at-3 c = search needs
-
-number-at-requires-3 : tie.Need-number-at-requires-3
-number-at-requires-3 c κs = search needs
-
-lay-field-requires-3 : tie.Need-lay-field-requires-3
-lay-field-requires-3 c κs = search needs
-
-add-number-at-4 : tie.Need-add-number-at-4
-add-number-at-4 c = search needs
-
-number-at-requires-4 : tie.Need-number-at-requires-4
-number-at-requires-4 c κs = search needs
-
-lay-field-requires-4 : tie.Need-lay-field-requires-4
-lay-field-requires-4 c κs = search needs
-
-end-line-requires : tie.Need-end-line-requires
-end-line-requires c κs = search needs
-
 returns : tie.Need-returns
 unfolding numbersText text
 returns c =
@@ -63,17 +24,17 @@ pub lay-numbers-spec : {M : Type 1} → statement M
 lay-numbers-spec =
     tie.close
     (tie.spec
-    add-number-at
-    number-at-requires
-    lay-field-requires
-    add-number-at-2
-    number-at-requires-2
-    lay-field-requires-2
-    add-number-at-3
-    number-at-requires-3
-    lay-field-requires-3
-    add-number-at-4
-    number-at-requires-4
-    lay-field-requires-4
-    end-line-requires
+    (λ c. search needs)
+    (λ c κs. search needs)
+    (λ c κs. search needs)
+    (λ c. search needs)
+    (λ c κs. search needs)
+    (λ c κs. search needs)
+    (λ c. search needs)
+    (λ c κs. search needs)
+    (λ c κs. search needs)
+    (λ c. search needs)
+    (λ c κs. search needs)
+    (λ c κs. search needs)
+    (λ c κs. search needs)
     returns)

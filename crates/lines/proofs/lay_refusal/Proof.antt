@@ -6,21 +6,6 @@ use Rattle.lines.proofs.Texts.{refusal-parts}
 use Rattle.lines.proofs.lay_refusal.Statement.{statement}
 use Rattle.lines.proofs.lay_refusal.Tie as tie
 
-slice-aggregate-lay-word : tie.Need-slice-aggregate-lay-word
-slice-aggregate-lay-word c = search needs
-
-lay-word-requires : tie.Need-lay-word-requires
-lay-word-requires c κs = search needs
-
-lay-field-requires : tie.Need-lay-field-requires
-lay-field-requires c κs = search needs
-
-lay-field-requires-2 : tie.Need-lay-field-requires-2
-lay-field-requires-2 c κs = search needs
-
-end-line-requires : tie.Need-end-line-requires
-end-line-requires c κs = search needs
-
 returns : tie.Need-returns
 unfolding text
 returns c =
@@ -33,9 +18,9 @@ pub lay-refusal-spec : {M : Type 1} → statement M
 lay-refusal-spec =
     tie.close
     (tie.spec
-    slice-aggregate-lay-word
-    lay-word-requires
-    lay-field-requires
-    lay-field-requires-2
-    end-line-requires
+    (λ c. search needs)
+    (λ c κs. search needs)
+    (λ c κs. search needs)
+    (λ c κs. search needs)
+    (λ c κs. search needs)
     returns)

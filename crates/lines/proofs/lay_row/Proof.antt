@@ -5,15 +5,9 @@ use Rattle.lines.proofs.Texts.{row-parts}
 use Rattle.lines.proofs.lay_row.Statement.{statement}
 use Rattle.lines.proofs.lay_row.Tie as tie
 
-lay-bytes-requires : tie.Need-lay-bytes-requires
-lay-bytes-requires c κs = search needs
-
-lay-numbers-requires : tie.Need-lay-numbers-requires
-lay-numbers-requires c κs = search needs
-
 returns : tie.Need-returns
 returns c =
     (lays-as (row-parts _ _) (lays-then (c .before .before .lay-bytes .ensures .0) (c .lay-numbers .ensures .0)), search needs)
 
 pub lay-row-spec : {M : Type 1} → statement M
-lay-row-spec = tie.close (tie.spec lay-bytes-requires lay-numbers-requires returns)
+lay-row-spec = tie.close (tie.spec (λ c κs. search needs) (λ c κs. search needs) returns)

@@ -33,8 +33,8 @@ slice-read-t : tie.Need-slice-read-t Inv-loop μ-loop
 slice-read-t c =
     omega (arith, room ((c .before .before .before .loop) .inv) ((c .before .before .loop-test) .taken))
 
-cast-p : tie.Need-cast-p Inv-loop μ-loop
-cast-p c =
+cast-component : tie.Need-cast-component Inv-loop μ-loop
+cast-component c =
     omega arith
 
 mul-if1 : tie.Need-mul-if1 Inv-loop μ-loop
@@ -132,7 +132,7 @@ list-in-spec =
     slice-read-w
     mul-t
     slice-read-t
-    cast-p
+    cast-component
     mul-if1
     array-read-if1
     cast-i

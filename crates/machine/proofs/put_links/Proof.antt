@@ -5,17 +5,8 @@ use Rattle.arrays.proofs.Laws.{fun-set}
 use Rattle.machine.proofs.put_links.Statement.{statement}
 use Rattle.machine.proofs.put_links.Tie as tie
 
-sized-links-requires : tie.Need-sized-links-requires
-sized-links-requires c κs = search needs
-
-mul-links : tie.Need-mul-links
-mul-links c = search needs
-
-element-write-links : tie.Need-element-write-links
-element-write-links c = search needs
-
 returns : tie.Need-returns
 returns c = fun-set _ _ _ (omega (arith, c .«sized-links» .ensures))
 
 pub put-links-spec : {M : Type 1} → statement M
-put-links-spec = tie.close (tie.spec sized-links-requires mul-links element-write-links returns)
+put-links-spec = tie.close (tie.spec (λ c κs. search needs) (λ c. search needs) (λ c. search needs) returns)

@@ -5,17 +5,8 @@ use Rattle.arrays.proofs.Laws.{fun-set}
 use Rattle.machine.proofs.put_value.Statement.{statement}
 use Rattle.machine.proofs.put_value.Tie as tie
 
-sized-requires : tie.Need-sized-requires
-sized-requires c κs = search needs
-
-mul-vals : tie.Need-mul-vals
-mul-vals c = search needs
-
-element-write-vals : tie.Need-element-write-vals
-element-write-vals c = search needs
-
 returns : tie.Need-returns
 returns c = fun-set _ _ _ (omega (arith, c .sized .ensures))
 
 pub put-value-spec : {M : Type 1} → statement M
-put-value-spec = tie.close (tie.spec sized-requires mul-vals element-write-vals returns)
+put-value-spec = tie.close (tie.spec (λ c κs. search needs) (λ c. search needs) (λ c. search needs) returns)

@@ -6,24 +6,6 @@ use borrow.Author.Needs.{needs}
 use Rattle.placing.proofs.place_read.Statement.{statement}
 use Rattle.placing.proofs.place_read.Tie as tie
 
-add-rank : tie.Need-add-rank
-add-rank c = search needs
-
-mul-rows : tie.Need-mul-rows
-mul-rows c = search needs
-
-add-rows : tie.Need-add-rows
-add-rows c = search needs
-
-mul-rows-2 : tie.Need-mul-rows-2
-mul-rows-2 c = search needs
-
-slice-write-rows : tie.Need-slice-write-rows
-slice-write-rows c = search needs
-
-same-length : tie.Need-same-length
-same-length c = search needs
-
 returns : tie.Need-returns
 unfolding ranked
 returns c =
@@ -35,4 +17,4 @@ returns c =
 
 pub place-read-spec : {M : Type 1} → statement M
 place-read-spec =
-    tie.close (tie.spec add-rank mul-rows add-rows mul-rows-2 slice-write-rows same-length returns)
+    tie.close (tie.spec (λ c. search needs) (λ c. search needs) (λ c. search needs) (λ c. search needs) (λ c. search needs) (λ c. search needs) returns)

@@ -7,21 +7,6 @@ use Rattle.printing.proofs.Shown.{refusal-printed, report-printed, prin
 use Rattle.printing.proofs.print.Statement.{statement}
 use Rattle.printing.proofs.print.Tie as tie
 
-sized-requires : tie.Need-sized-requires
-sized-requires c κs = search needs
-
-taken-in-requires : tie.Need-taken-in-requires
-taken-in-requires c κs = search needs
-
-slice-aggregate-report : tie.Need-slice-aggregate-report
-slice-aggregate-report c = search needs
-
-report-requires : tie.Need-report-requires
-report-requires c κs = search needs
-
-lay-refusal-requires : tie.Need-lay-refusal-requires
-lay-refusal-requires c κs = search needs
-
 returns : tie.Need-returns
 returns c =
     let called = c .before .before .before .before .before in
@@ -44,11 +29,11 @@ pub print-spec : {M : Type 1} → statement M
 print-spec =
     tie.close
     (tie.spec
-    sized-requires
-    taken-in-requires
-    slice-aggregate-report
-    report-requires
-    lay-refusal-requires
+    (λ c κs. search needs)
+    (λ c κs. search needs)
+    (λ c. search needs)
+    (λ c κs. search needs)
+    (λ c κs. search needs)
     returns
     lay-report-requires
     returns-2)

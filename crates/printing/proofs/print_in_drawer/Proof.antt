@@ -8,27 +8,6 @@ use Rattle.printing.proofs.Laws.{print-front}
 use Rattle.printing.proofs.print_in_drawer.Statement.{statement}
 use Rattle.printing.proofs.print_in_drawer.Tie as tie
 
-sized-requires : tie.Need-sized-requires
-sized-requires c κs = search needs
-
-lay-heading-requires : tie.Need-lay-heading-requires
-lay-heading-requires c κs = search needs
-
-lay-text-requires : tie.Need-lay-text-requires
-lay-text-requires c κs = search needs
-
-print-requires : tie.Need-print-requires
-print-requires c κs = search needs
-
-sized-requires-2 : tie.Need-sized-requires-2
-sized-requires-2 c κs = search needs
-
-lay-text-requires-2 : tie.Need-lay-text-requires-2
-lay-text-requires-2 c κs = search needs
-
-same-length : tie.Need-same-length
-same-length c = search needs
-
 returns : tie.Need-returns
 returns c =
     let second = c .before .before in
@@ -41,11 +20,11 @@ pub print-in-drawer-spec : {M : Type 1} → statement M
 print-in-drawer-spec =
     tie.close
     (tie.spec
-    sized-requires
-    lay-heading-requires
-    lay-text-requires
-    print-requires
-    sized-requires-2
-    lay-text-requires-2
-    same-length
+    (λ c κs. search needs)
+    (λ c κs. search needs)
+    (λ c κs. search needs)
+    (λ c κs. search needs)
+    (λ c κs. search needs)
+    (λ c κs. search needs)
+    (λ c. search needs)
     returns)

@@ -12,8 +12,5 @@ returns c = sym (take-all 65537 _ (omega arith))
 slice-aggregate-result : tie.Need-slice-aggregate-result
 slice-aggregate-result c = sym (length-take-le 65537 (c .before .before .args .rec .now) (omega arith))
 
-returns-2 : tie.Need-returns-2
-returns-2 c = search needs
-
 pub taken-in-spec : {M : Type 1} → statement M
-taken-in-spec = tie.close (tie.spec returns slice-aggregate-result returns-2)
+taken-in-spec = tie.close (tie.spec returns slice-aggregate-result (λ c. search needs))

@@ -6,18 +6,6 @@ use Rattle.reader.proofs.Laws.{reads-at}
 use Rattle.reader.proofs.reading_at.Statement.{statement}
 use Rattle.reader.proofs.reading_at.Tie as tie
 
-cut-at-requires : tie.Need-cut-at-requires
-cut-at-requires c κs = search needs
-
-enum-known-cut : tie.Need-enum-known-cut
-enum-known-cut c = search needs
-
-enum-told : tie.Need-enum-told
-enum-told c = search needs
-
-enum-told-2 : tie.Need-enum-told-2
-enum-told-2 c = search needs
-
 returns : tie.Need-returns
 unfolding placeAfter
 returns c = reads-at _ (rw (c .before .cut .given .1) at (c .before .before .before .cut-at .ensures)) (omega arith)
@@ -31,4 +19,4 @@ unfolding placeAfter
 returns-3 c = reads-at _ (c .before .before .cut-at .ensures) (rw (c .enum-told2 .given .1) (omega arith))
 
 pub reading-at-spec : {M : Type 1} → statement M
-reading-at-spec = tie.close (tie.spec cut-at-requires enum-known-cut enum-told enum-told-2 returns returns-2 returns-3)
+reading-at-spec = tie.close (tie.spec (λ c κs. search needs) (λ c. search needs) (λ c. search needs) (λ c. search needs) returns returns-2 returns-3)

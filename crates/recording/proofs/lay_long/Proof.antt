@@ -13,41 +13,23 @@ returns : tie.Need-returns
 unfolding bytesOf fourBytes
 returns c = no-room _ refl (search needs)
 
-slice-write-buf : tie.Need-slice-write-buf
-slice-write-buf c = search needs
-
 slice-write-buf-2 : tie.Need-slice-write-buf-2
 slice-write-buf-2 c = simp length-set (omega arith)
 
 slice-write-buf-3 : tie.Need-slice-write-buf-3
 slice-write-buf-3 c = simp length-set (omega arith)
 
-cast-buf : tie.Need-cast-buf
-cast-buf c = search needs
-
 slice-write-buf-4 : tie.Need-slice-write-buf-4
 slice-write-buf-4 c = simp length-set (omega arith)
-
-cast-buf-2 : tie.Need-cast-buf-2
-cast-buf-2 c = search needs
 
 slice-write-buf-5 : tie.Need-slice-write-buf-5
 slice-write-buf-5 c = simp length-set (omega arith)
 
-cast-buf-3 : tie.Need-cast-buf-3
-cast-buf-3 c = search needs
-
 slice-write-buf-6 : tie.Need-slice-write-buf-6
 slice-write-buf-6 c = simp length-set (omega arith)
 
-cast-buf-4 : tie.Need-cast-buf-4
-cast-buf-4 c = search needs
-
 slice-write-buf-7 : tie.Need-slice-write-buf-7
 slice-write-buf-7 c = simp length-set (omega arith)
-
-same-length : tie.Need-same-length
-same-length c = search needs
 
 returns-2 : tie.Need-returns-2
 unfolding bytesOf fourBytes
@@ -58,16 +40,16 @@ lay-long-spec =
     tie.close
     (tie.spec
     returns
-    slice-write-buf
+    (λ c. search needs)
     slice-write-buf-2
     slice-write-buf-3
-    cast-buf
+    (λ c. search needs)
     slice-write-buf-4
-    cast-buf-2
+    (λ c. search needs)
     slice-write-buf-5
-    cast-buf-3
+    (λ c. search needs)
     slice-write-buf-6
-    cast-buf-4
+    (λ c. search needs)
     slice-write-buf-7
-    same-length
+    (λ c. search needs)
     returns-2)

@@ -9,17 +9,11 @@ use Rattle.recording.proofs.lay_short.Tie as tie
 returns : tie.Need-returns
 returns c e is = no-room _ is (search needs)
 
-slice-write-buf : tie.Need-slice-write-buf
-slice-write-buf c = search needs
-
 slice-write-buf-2 : tie.Need-slice-write-buf-2
 slice-write-buf-2 c = simp length-set (omega arith)
 
 slice-write-buf-3 : tie.Need-slice-write-buf-3
 slice-write-buf-3 c = simp length-set (omega arith)
-
-same-length : tie.Need-same-length
-same-length c = search needs
 
 returns-2 : tie.Need-returns-2
 returns-2 c e is = laid _ is (search needs)
@@ -27,4 +21,4 @@ returns-2 c e is = laid _ is (search needs)
 pub lay-short-spec : {M : Type 1} → statement M
 lay-short-spec =
     tie.close
-    (tie.spec returns slice-write-buf slice-write-buf-2 slice-write-buf-3 same-length returns-2)
+    (tie.spec returns (λ c. search needs) slice-write-buf-2 slice-write-buf-3 (λ c. search needs) returns-2)

@@ -8,9 +8,6 @@ returns : tie.Need-returns
 unfolding Makes
 returns c = search needs
 
-send-requires : tie.Need-send-requires
-send-requires c κs = search needs
-
 returns-2 : tie.Need-returns-2
 unfolding Makes
 returns-2 c = search needs
@@ -20,4 +17,4 @@ unfolding Makes
 returns-3 c = search needs
 
 pub make-room-spec : {M : Type 1} → statement M
-make-room-spec = tie.close (tie.spec returns send-requires returns-2 returns-3)
+make-room-spec = tie.close (tie.spec returns (λ c κs. search needs) returns-2 returns-3)

@@ -8,11 +8,5 @@ use Rattle.replay_drawer.proofs.send.Tie as tie
 slice-aggregate-write-all : tie.Need-slice-aggregate-write-all
 slice-aggregate-write-all c = sym (length-take-le (c .before .before .args .n) (c .before .before .args .text .now) (c .before .before .pre))
 
-write-all-requires : tie.Need-write-all-requires
-write-all-requires c κs = search needs
-
-returns : tie.Need-returns
-returns c = search needs
-
 pub send-spec : {M : Type 1} → statement M
-send-spec = tie.close (tie.spec slice-aggregate-write-all write-all-requires returns)
+send-spec = tie.close (tie.spec slice-aggregate-write-all (λ c κs. search needs) (λ c. search needs))

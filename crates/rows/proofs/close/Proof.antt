@@ -1,11 +1,12 @@
 -- `close`. The loop's invariant: the first i rows are closed, and the array keeps its length. The measure is the rows left.
-use Prim.Native.Nat.{_-_, _*_, _/_, _≤_}
+use Prim.Native.Nat.{_-_, _/_, _≤_}
 use mathlib.Core.Logic.{⊎-elim}
 use mathlib.Core.Path.{_≡_, refl}
 use lib.ListN.{length, getD, length-set}
 use borrow.Author.Needs.{needs}
 use native.Mathlib.Omega.{arith}
 use Rattle.arrays.specs.Arrays.{asFun}
+use Rattle.arrays.specs.Numbers.{rowFrom}
 use Rattle.rows.specs.Rows.{processBy, closed}
 use Rattle.rows.proofs.Laws.{closed-none}
 use Rattle.rows.proofs.Stores.{first-number, finished-stays, unfinished-stored}
@@ -34,7 +35,7 @@ slice-read-head c = search needs
 cast-p : tie.Need-cast-p Inv-loop μ-loop
 cast-p c =
     let loop = c .before .before .before .loop in
-    omega (arith, c .before .slice-known .given (5 * loop .i))
+    omega (arith, c .before .slice-known .given (rowFrom (loop .i)))
 
 shared-slice-read-rows : tie.Need-shared-slice-read-rows Inv-loop μ-loop
 unfolding asFun processBy
@@ -46,14 +47,14 @@ shared-slice-read-rows c =
 cast-rows : tie.Need-cast-rows Inv-loop μ-loop
 cast-rows c =
     let loop = c .before .before .before .before .loop in
-    omega (arith, c .shared-slice-known .given (getD (loop .rows) (5 * loop .i) 0 / 16777216))
+    omega (arith, c .shared-slice-known .given (getD (loop .rows) (rowFrom (loop .i)) 0 / 16777216))
 
 add-rows : tie.Need-add-rows Inv-loop μ-loop
 unfolding asFun
 add-rows c =
     let loop = c .before .before .before .before .loop in
     let room = c .before .before .before .before .before .pre .2 in
-    let kept = c .shared-slice-known .given (getD (loop .rows) (5 * loop .i) 0 / 16777216) in
+    let kept = c .shared-slice-known .given (getD (loop .rows) (rowFrom (loop .i)) 0 / 16777216) in
     omega (arith, first-number _ _ (loop .i) (loop .rows) (loop .inv .2), room .head (loop .i) (omega arith))
 
 mul-rows : tie.Need-mul-rows Inv-loop μ-loop

@@ -7,18 +7,6 @@ use borrow.Author.Needs.{needs}
 use Rattle.rows.proofs.lay_report.Statement.{statement}
 use Rattle.rows.proofs.lay_report.Tie as tie
 
-slice-write-out : tie.Need-slice-write-out
-slice-write-out c = search needs
-
-mul-lay-number : tie.Need-mul-lay-number
-mul-lay-number c = search needs
-
-add-lay-number : tie.Need-add-lay-number
-add-lay-number c = search needs
-
-cast-lay-number : tie.Need-cast-lay-number
-cast-lay-number c = search needs
-
 lay-number-requires : tie.Need-lay-number-requires
 lay-number-requires c κs =
     simp length-set (omega arith)
@@ -26,9 +14,6 @@ lay-number-requires c κs =
 lay-number-requires-2 : tie.Need-lay-number-requires-2
 lay-number-requires-2 c κs =
     omega (arith, simp length-set at ((c .before .before .before .lay-number) .kept .0))
-
-mul-lay-numbers : tie.Need-mul-lay-numbers
-mul-lay-numbers c = search needs
 
 lay-numbers-requires : tie.Need-lay-numbers-requires
 lay-numbers-requires c κs =
@@ -48,13 +33,13 @@ pub lay-report-spec : {M : Type 1} → statement M
 lay-report-spec =
     tie.close
     (tie.spec
-    slice-write-out
-    mul-lay-number
-    add-lay-number
-    cast-lay-number
+    (λ c. search needs)
+    (λ c. search needs)
+    (λ c. search needs)
+    (λ c. search needs)
     lay-number-requires
     lay-number-requires-2
-    mul-lay-numbers
+    (λ c. search needs)
     lay-numbers-requires
     same-length
     returns)

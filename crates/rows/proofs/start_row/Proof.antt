@@ -4,19 +4,10 @@ use borrow.Author.Needs.{needs}
 use Rattle.rows.proofs.start_row.Statement.{statement}
 use Rattle.rows.proofs.start_row.Tie as tie
 
-number-requires : tie.Need-number-requires
-number-requires c κs = search needs
-
-lay-row-requires : tie.Need-lay-row-requires
-lay-row-requires c κs = search needs
-
-same-length : tie.Need-same-length
-same-length c = search needs
-
 returns : tie.Need-returns
 unfolding freshNumbers head
 returns c =
     rw ((c .before .before .before .number) .ensures) at ((c .before .before .lay-row) .ensures)
 
 pub start-row-spec : {M : Type 1} → statement M
-start-row-spec = tie.close (tie.spec number-requires lay-row-requires same-length returns)
+start-row-spec = tie.close (tie.spec (λ c κs. search needs) (λ c κs. search needs) (λ c. search needs) returns)

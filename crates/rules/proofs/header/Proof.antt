@@ -9,9 +9,6 @@ use Rattle.rules.proofs.header.Tie as tie
 returns : tie.Need-returns
 returns c = too-short _ (search needs)
 
-shared-slice-read-if2 : tie.Need-shared-slice-read-if2
-shared-slice-read-if2 c = search needs
-
 returns-2 : tie.Need-returns-2
 unfolding version
 returns-2 c = other-version _ (search needs) (search needs)
@@ -20,40 +17,13 @@ returns-3 : tie.Need-returns-3
 unfolding version
 returns-3 c = too-long _ (search needs) (search needs) (search needs)
 
-shared-slice-read-number : tie.Need-shared-slice-read-number
-shared-slice-read-number c = search needs
-
-shared-slice-read-number-2 : tie.Need-shared-slice-read-number-2
-shared-slice-read-number-2 c = search needs
-
-shared-slice-read-number-3 : tie.Need-shared-slice-read-number-3
-shared-slice-read-number-3 c = search needs
-
-shared-slice-read-number-4 : tie.Need-shared-slice-read-number-4
-shared-slice-read-number-4 c = search needs
-
-number-requires : tie.Need-number-requires
-number-requires c κs = search needs
-
-cast-if4 : tie.Need-cast-if4
-cast-if4 c = search needs
-
-sub-if4 : tie.Need-sub-if4
-sub-if4 c = search needs
-
 returns-4 : tie.Need-returns-4
 unfolding version follows numberAt
 returns-4 c = other-length _ (search needs) (search needs) (search needs) (search needs)
 
-shared-slice-read-if5 : tie.Need-shared-slice-read-if5
-shared-slice-read-if5 c = search needs
-
 returns-5 : tie.Need-returns-5
 unfolding version follows numberAt height
 returns-5 c = no-height _ (search needs) (search needs) (search needs) (search needs) (search needs)
-
-shared-slice-read-if6 : tie.Need-shared-slice-read-if6
-shared-slice-read-if6 c = search needs
 
 returns-6 : tie.Need-returns-6
 unfolding version follows numberAt height
@@ -68,19 +38,19 @@ header-spec =
     tie.close
     (tie.spec
     returns
-    shared-slice-read-if2
+    (λ c. search needs)
     returns-2
     returns-3
-    shared-slice-read-number
-    shared-slice-read-number-2
-    shared-slice-read-number-3
-    shared-slice-read-number-4
-    number-requires
-    cast-if4
-    sub-if4
+    (λ c. search needs)
+    (λ c. search needs)
+    (λ c. search needs)
+    (λ c. search needs)
+    (λ c κs. search needs)
+    (λ c. search needs)
+    (λ c. search needs)
     returns-4
-    shared-slice-read-if5
+    (λ c. search needs)
     returns-5
-    shared-slice-read-if6
+    (λ c. search needs)
     returns-6
     returns-7)

@@ -5,15 +5,6 @@ use Rattle.meaning.specs.Run.{isStart}
 use Rattle.rules.proofs.is_start.Statement.{statement}
 use Rattle.rules.proofs.is_start.Tie as tie
 
-enum-told : tie.Need-enum-told
-enum-told c = search needs
-
-enum-told-2 : tie.Need-enum-told-2
-enum-told-2 c = search needs
-
-enum-told-3 : tie.Need-enum-told-3
-enum-told-3 c = search needs
-
 returns : tie.Need-returns
 unfolding isStart
 returns c = sym (ap isStart (c .enum-told .given .1))
@@ -27,4 +18,4 @@ unfolding isStart
 returns-3 c = sym (ap isStart (c .enum-told3 .given .1))
 
 pub is-start-spec : {M : Type 1} → statement M
-is-start-spec = tie.close (tie.spec enum-told enum-told-2 enum-told-3 returns returns-2 returns-3)
+is-start-spec = tie.close (tie.spec (λ c. search needs) (λ c. search needs) (λ c. search needs) returns returns-2 returns-3)

@@ -5,24 +5,6 @@ use Rattle.meaning.specs.Run.{processOf}
 use Rattle.rules.proofs.process_of.Statement.{statement}
 use Rattle.rules.proofs.process_of.Tie as tie
 
-enum-known-e : tie.Need-enum-known-e
-enum-known-e c = search needs
-
-wide-requires : tie.Need-wide-requires
-wide-requires c κs = search needs
-
-enum-known-e-2 : tie.Need-enum-known-e-2
-enum-known-e-2 c = search needs
-
-wide-requires-2 : tie.Need-wide-requires-2
-wide-requires-2 c κs = search needs
-
-enum-known-e-3 : tie.Need-enum-known-e-3
-enum-known-e-3 c = search needs
-
-wide-requires-3 : tie.Need-wide-requires-3
-wide-requires-3 c κs = search needs
-
 returns : tie.Need-returns
 unfolding processOf
 returns c = c .wide .ensures ∙ sym (ap processOf (c .before .before .e .given .1))
@@ -39,12 +21,12 @@ pub process-of-spec : {M : Type 1} → statement M
 process-of-spec =
     tie.close
     (tie.spec
-    enum-known-e
-    wide-requires
-    enum-known-e-2
-    wide-requires-2
-    enum-known-e-3
-    wide-requires-3
+    (λ c. search needs)
+    (λ c κs. search needs)
+    (λ c. search needs)
+    (λ c κs. search needs)
+    (λ c. search needs)
+    (λ c κs. search needs)
     returns
     returns-2
     returns-3)

@@ -7,11 +7,8 @@ use borrow.Author.Needs.{needs}
 use Rattle.rules.proofs.processes.Statement.{statement}
 use Rattle.rules.proofs.processes.Tie as tie
 
-shl-result : tie.Need-shl-result
-shl-result c = search needs
-
 returns : tie.Need-returns
 returns c = shl-exact 1 _ 64 (omega arith) (omega arith) ∙ one-mul _
 
 pub processes-spec : {M : Type 1} → statement M
-processes-spec = tie.close (tie.spec shl-result returns)
+processes-spec = tie.close (tie.spec (λ c. search needs) returns)

@@ -17,7 +17,7 @@ same-lt : {a a′ b b′ : ℕ} → a ≡ a′ → b ≡ b′ → a < b → a′
 same-lt p q h = omega arith
 
 -- what the tests passed so far say: the process is one of the tree; the record is a start; it is a step
-inside : (c : tie.Else1) → processOf (c .before .before .before .args .e) < 2 ^ c .before .before .before .args .h
+inside : (c : tie.Else1) → processOf (c .before .before .before .args .e) < 2 ^ c .before .before .before .args .f .height
 inside c = same-lt (c .before .process-of .ensures) (c .before .before .processes .ensures) (c .if1 .left)
 
 a-start : (c : tie.Then2) → isStart (c .before .before .before .before .before .args .e) ≡ true
@@ -26,20 +26,8 @@ a-start c = sym (c .before .is-start .ensures) ∙ c .if2 .taken
 a-step : (c : tie.Else2) → isStart (c .before .before .before .before .before .args .e) ≡ false
 a-step c = sym (c .before .is-start .ensures) ∙ c .if2 .left
 
-processes-requires : tie.Need-processes-requires
-processes-requires c κs = search needs
-
-process-of-requires : tie.Need-process-of-requires
-process-of-requires c κs = search needs
-
 returns : tie.Need-returns
 returns c = no-such-process _ _ _ _ (same-le (c .before .before .processes .ensures) (c .before .process-of .ensures) (c .if1 .taken))
-
-is-start-requires : tie.Need-is-start-requires
-is-start-requires c κs = search needs
-
-first-of-requires : tie.Need-first-of-requires
-first-of-requires c κs = search needs
 
 returns-2 : tie.Need-returns-2
 returns-2 c = c .first-of .ensures ∙ starts _ _ _ _ (inside (c .before .before .before)) (a-start (c .before))
@@ -54,11 +42,11 @@ pub refusal-spec : {M : Type 1} → statement M
 refusal-spec =
     tie.close
     (tie.spec
-    processes-requires
-    process-of-requires
+    (λ c κs. search needs)
+    (λ c κs. search needs)
     returns
-    is-start-requires
-    first-of-requires
+    (λ c κs. search needs)
+    (λ c κs. search needs)
     returns-2
     returns-3
     returns-4)

@@ -10,9 +10,6 @@ use Rattle.sets.proofs.Laws.{isIn-below, is-without, isIn-without}
 use Rattle.sets.proofs.cut.Statement.{statement}
 use Rattle.sets.proofs.cut.Tie as tie
 
-has-requires : tie.Need-has-requires
-has-requires c κs = search needs
-
 is-in : (c : tie.Then1) → isIn (c .before .before .args .set) (c .before .before .args .p) ≡ true
 is-in c = sym (c .before .has .ensures) ∙ c .if1 .taken
 
@@ -36,4 +33,4 @@ returns-2 : tie.Need-returns-2
 returns-2 c = is-without _ _ _ (sym (c .before .has .ensures) ∙ c .if1 .left) (λ q n. refl)
 
 pub cut-spec : {M : Type 1} → statement M
-cut-spec = tie.close (tie.spec has-requires shl-result sub-result returns returns-2)
+cut-spec = tie.close (tie.spec (λ c κs. search needs) shl-result sub-result returns returns-2)

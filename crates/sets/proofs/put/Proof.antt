@@ -13,14 +13,8 @@ use Rattle.sets.proofs.put.Tie as tie
 returns : tie.Need-returns
 returns c = sym (with-beyond _ _ (omega arith))
 
-has-requires : tie.Need-has-requires
-has-requires c κs = search needs
-
 returns-2 : tie.Need-returns-2
 returns-2 c = is-with _ _ _ (omega arith) (sym (c .before .has .ensures) ∙ c .if2 .taken) (λ q n. refl)
-
-shl-result : tie.Need-shl-result
-shl-result c = search needs
 
 not-in : (c : tie.Else2) → isIn (c .before .before .before .args .set) (c .before .before .before .args .p) ≡ false
 not-in c = sym (c .before .has .ensures) ∙ c .if2 .left
@@ -39,4 +33,4 @@ returns-3 c =
     ap isIn (omega (arith, weight (a .p) (below c))) ∙ isIn-with (a .p) (a .set) (below c) (not-in c)
 
 pub put-spec : {M : Type 1} → statement M
-put-spec = tie.close (tie.spec returns has-requires returns-2 shl-result add-result returns-3)
+put-spec = tie.close (tie.spec returns (λ c κs. search needs) returns-2 (λ c. search needs) add-result returns-3)

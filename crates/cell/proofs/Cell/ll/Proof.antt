@@ -9,9 +9,6 @@ use Rattle.cell.proofs.Laws.{state-is}
 use Rattle.cell.proofs.Cell.ll.Statement.{statement}
 use Rattle.cell.proofs.Cell.ll.Tie as tie
 
-put-requires : tie.Need-put-requires
-put-requires c κs = search needs
-
 returns : tie.Need-returns
 unfolding readOf loadLinked stateOf
 returns c =
@@ -24,4 +21,4 @@ returns c =
     }
 
 pub ll-spec : {M : Type 1} → statement M
-ll-spec = tie.close (tie.spec put-requires returns)
+ll-spec = tie.close (tie.spec (λ c κs. search needs) returns)

@@ -4,12 +4,9 @@ use Rattle.cell.specs.Cell.{initial, stateOf}
 use Rattle.cell.proofs.Cell.new.Statement.{statement}
 use Rattle.cell.proofs.Cell.new.Tie as tie
 
-empty-requires : tie.Need-empty-requires
-empty-requires c κs = search needs
-
 returns : tie.Need-returns
 unfolding initial stateOf
 returns c = λ i. record { value = 0; linked = c .empty .ensures i }
 
 pub new-spec : {M : Type 1} → statement M
-new-spec = tie.close (tie.spec empty-requires returns)
+new-spec = tie.close (tie.spec (λ c κs. search needs) returns)

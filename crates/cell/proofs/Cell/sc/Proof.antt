@@ -10,12 +10,6 @@ use Rattle.cell.proofs.Laws.{state-is, sc-succeeds, sc-fails}
 use Rattle.cell.proofs.Cell.sc.Statement.{statement}
 use Rattle.cell.proofs.Cell.sc.Tie as tie
 
-has-requires : tie.Need-has-requires
-has-requires c κs = search needs
-
-empty-requires : tie.Need-empty-requires
-empty-requires c κs = search needs
-
 -- what the test says of `ok`, also where it asks besides for what always holds
 both : (a b : Bool) → (a && b) ≡ true → a ≡ true
 both true b h = refl
@@ -54,4 +48,4 @@ returns-2 c =
     }
 
 pub sc-spec : {M : Type 1} → statement M
-sc-spec = tie.close (tie.spec has-requires empty-requires returns returns-2)
+sc-spec = tie.close (tie.spec (λ c κs. search needs) (λ c κs. search needs) returns returns-2)

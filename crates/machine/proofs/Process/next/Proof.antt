@@ -1,177 +1,138 @@
--- `next`: each arm is the access that the step number says, `joined` with what the arm does.
-use Prim.Native.Nat.{ℕ, _-_, _%_}
-use mathlib.Core.Path.{_≡_, refl, sym, ap, _∙_}
-use mathlib.Core.Bool.{true}
+-- `next`: each arm is the access that the step number says.
+use Prim.Native.Nat.{ℕ, suc, _+_, _≤_, _<_}
+use mathlib.Core.Path.{_≡_, refl, ap, _∙_}
 use native.Mathlib.Omega.{arith}
 use borrow.Author.Needs.{needs}
+use lib.ListN.{length}
 use Rattle.cell.specs.Cell.{readOf}
-use Rattle.meaning.specs.Tree.{left, right}
-use Rattle.meaning.specs.Access.{writesLeaf}
-use Rattle.meaning.specs.Steps.{cellAt, withValue, effect, onward, sawLeft, sawRight, atStep, plus}
-use Rattle.climb.specs.Climb.{CanTry, afterStore}
-use Rattle.climb.proofs.Passes.{within-in}
-use Rattle.arrays.specs.Arrays.{asFun}
+use Rattle.meaning.specs.Shape.{plus, formed}
+use Rattle.meaning.specs.Steps.{Process, cellAt, withValue, effect, onward, sawChildren, atStep}
+use Rattle.spots.specs.Spot.{width}
+use Rattle.spots.proofs.Laws.{width-is}
+use Rattle.spots.proofs.Shapes.{of-write}
+use Rattle.spots.proofs.Within.{within-in}
+use Rattle.climb.specs.Climb.{SpotAt}
 use Rattle.machine.specs.Arrays.{memoryOf, processOf}
+use Rattle.machine.specs.declared.Process.{Process as Record}
+use Rattle.machine.proofs.Known.{lawful, last-three, last-few, addition-past-1}
 use Rattle.machine.proofs.Joined.{joined}
-use Rattle.machine.proofs.Laws.{leaf-write, link-at, left-at, right-at, store-at, last-addition, addition-past-1, can-try}
 use Rattle.machine.proofs.Stored.{value-stored}
+use Rattle.machine.proofs.Tried.{adding, can-climb, there-at, look-is, stores-at, on-step}
 use Rattle.machine.proofs.Process.next.Statement.{statement}
 use Rattle.machine.proofs.Process.next.Tie as tie
 
-fourth : (n : ℕ) → (n % 4 ≡ 0 → ⊥) → (n % 4 ≡ 1 → ⊥) → (n % 4 ≡ 2 → ⊥) → n % 4 ≡ 3
-fourth n a b c = omega arith
+-- the record at step k with those children seen
+abbrev sees : ℕ → Record → (ℕ → ℕ) → Process
+sees k r seen = record { step = k; operation = r .operation; adds = r .adds; delta = r .delta; seen = r .seen; children = seen }
 
 -- in the arm of the attempts
-adds : (c : tie.Then2) → c .before .before .before .args .self .adds ≡ true
-adds c = addition-past-1 _ _ _ (c .before .before .before .pre) (omega arith)
+past-2 : (c : tie.At-match-rest) → 3 ≤ c .before .args .self .step
+past-2 c = omega (arith, c .before .pre .busy)
 
-tried : (c : tie.Then2) → CanTry (c .before .before .before .args .h) (c .before .before .before .args .p) (c .before .before .before .args .self .step)
-tried c = can-try _ _ _ (c .before .before .before .pre) (omega arith)
-
-read-requires : tie.Need-read-requires
-read-requires c κs = search needs
-
-wrapping-add-u32-requires : tie.Need-wrapping-add-u32-requires
-wrapping-add-u32-requires c κs = search needs
-
-leaf-of-requires : tie.Need-leaf-of-requires
-leaf-of-requires c κs = search needs
-
-put-value-requires : tie.Need-put-value-requires
-put-value-requires c κs = search needs
+spot-there : (c : tie.After-spot-of) → SpotAt (c .before .before .before .before .args .f) (c .before .before .before .before .args .p) (c .before .before .before .before .args .self .step) (c .spot-of .result)
+spot-there c =
+    let at = c .before .before .before .before in
+    c .spot-of .ensures (at .args .p) (at .args .self .adds) (at .pre .known .low) (at .pre .last)
 
 node-of-requires : tie.Need-node-of-requires
-node-of-requires c κs = tried c
-
-sub-i : tie.Need-sub-i
-sub-i c = search needs
-
-link-requires : tie.Need-link-requires
-link-requires c κs = search needs
-
-mul-next : tie.Need-mul-next
-mul-next c = search needs
-
-mul-next-2 : tie.Need-mul-next-2
-mul-next-2 c = search needs
-
-element-copy-out-next : tie.Need-element-copy-out-next
-element-copy-out-next c = search needs
-
-add-next : tie.Need-add-next
-add-next c = search needs
-
-mul-next-3 : tie.Need-mul-next-3
-mul-next-3 c = search needs
-
-add-next-2 : tie.Need-add-next-2
-add-next-2 c = search needs
-
-mul-next-4 : tie.Need-mul-next-4
-mul-next-4 c = search needs
-
-element-copy-out-next-2 : tie.Need-element-copy-out-next-2
-element-copy-out-next-2 c = search needs
-
-add-next-3 : tie.Need-add-next-3
-add-next-3 c = search needs
-
-store-requires : tie.Need-store-requires
-store-requires c κs = search needs
+node-of-requires c κs =
+    let at = c .before .before .before .before in
+    can-climb (at .args .f) (at .args .p) (at .args .self) (at .pre) (past-2 (c .before .before .before)) _ (spot-there c)
 
 returns : tie.Need-returns
-returns c = c .read .ensures _
+returns c =
+    let at = c .before .before .before .before .before .before .before .before .before in
+    let a = at .args in
+    let past = past-2 (c .before .before .before .before .before .before .before .before) in
+    let spot = spot-there (c .before .before .before .before .before) in
+    c .link .ensures (a .f) _ (adding (a .f) (a .p) (a .self) (at .pre) past _ spot)
+    (there-at (a .f) (a .p) (a .self) (at .pre) past _ spot _ (c .before .before .before .before .node-of .ensures))
+    (omega (arith, c .before .before .before .if3 .taken))
 
 returns-2 : tie.Need-returns-2
-unfolding processOf effect onward atStep plus
+unfolding processOf memoryOf effect onward sawChildren atStep cellAt readOf
 returns-2 c =
-    let a = c .before .before .before .before .before .args in
-    let step = c .before .before .before .before .match .keys2 in
-    let adds = addition-past-1 _ _ _ (c .before .before .before .before .before .pre) (omega arith) in
+    let at = c .before .before .before .before .before .before .before .before .before .before .before in
+    let a = at .args in
+    let past = past-2 (c .before .before .before .before .before .before .before .before .before .before) in
+    let spot = spot-there (c .before .before .before .before .before .before .before) in
+    let σ = c .before .before .before .before .before .before .before .spot-of .result in
+    let x = c .before .before .before .before .before .before .node-of .result in
+    let adds = adding (a .f) (a .p) (a .self) (at .pre) past _ spot in
+    let there = there-at (a .f) (a .p) (a .self) (at .pre) past _ spot _ (c .before .before .before .before .before .before .node-of .ensures) in
+    let inside : σ .position ≤ length (formed (a .f) .shape .groups (a .f .height) x) = omega (arith, c .before .before .before .before .groups .ensures .is x, c .before .before .before .if4 .taken) in
+    let room : suc (σ .position) < width (formed (a .f)) x = omega (arith, inside, width-is (formed (a .f)) x) in
+    joined
+    (look-is (a .f) (a .p) (a .self) x σ adds there _ (omega (arith, c .before .before .before .before .before .if3 .left)) inside (c .before .before .group-at .ensures))
+    (on-step (a .f) (a .p) (a .self) x σ adds there room)
+    (record { process = ap (sees (a .self .step + 1) (a .self)) (c .copy .ensures); stored = refl; memory = refl })
+
+store-requires : tie.Need-store-requires
+store-requires c κs =
+    let at = c .before .before .before .before .before .before .before .before .before .before in
+    let a = at .args in
+    let past = past-2 (c .before .before .before .before .before .before .before .before .before) in
+    let spot = spot-there (c .before .before .before .before .before .before) in
+    let node = c .before .before .before .before .before .node-of .ensures in
+    let adds = adding (a .f) (a .p) (a .self) (at .pre) past _ spot in
+    let there = there-at (a .f) (a .p) (a .self) (at .pre) past _ spot _ node in
+    let sc = stores-at (a .f) (a .p) (a .self) _ _ adds there _ (c .before .before .before .groups .ensures) (omega (arith, c .before .before .if4 .left)) in
+    (at .pre .known, (adds, (there, (sc, (node .high, omega arith)))))
+
+returns-3 : tie.Need-returns-3
+returns-3 c = c .read .ensures _
+
+returns-4 : tie.Need-returns-4
+unfolding processOf effect onward atStep plus
+returns-4 c =
+    let at = c .before .before .before .before .before in
+    let a = at .args in
+    let can = at .pre in
+    let two : a .self .step ≡ 2 = c .before .before .before .before .match .keys2 in
+    let adds = addition-past-1 (a .f) (a .p) (a .self) can (omega (arith, two)) in
     let add = c .before .before .before .wrapping-add-u32 in
     let sum : add .result ≡ plus (a .self .seen) (a .self .delta) = omega (arith, add .ensures) in
     joined
-    (leaf-write _ _ _ adds step ∙ ap writesLeaf (sym (c .before .leaf-of .ensures .is)))
-    (within-in _ 3 _ (omega arith) (omega (arith, last-addition (a .h) _ adds)))
+    (of-write (formed (a .f)) (a .p) (processOf (a .self)) (lawful (a .f) (can .known)) adds two)
+    (within-in _ 3 _ (omega (arith, two)) (last-three (a .f) (can .known) (a .p) (a .self .adds) adds))
     (record {
       process = refl;
       stored = refl;
-      memory = value-stored _ _ _ _ _ (c .put-value .ensures) ∙ ap (withValue _ _) sum;
+      memory = value-stored _ _ _ _ _ (c .put-value .ensures) ∙ rw (c .before .leaf-of .ensures .is) (ap (withValue _ _) sum);
     })
 
-returns-3 : tie.Need-returns-3
-unfolding processOf effect onward
-returns-3 c =
-    let a = c .before .before .before .before .before .before .before .before .args in
-    let at = c .before .before .before .before .before in
-    joined
-    (link-at _ _ (processOf (a .self)) _ (adds at) (tried at) (c .before .before .before .before .node-of .ensures) (c .before .before .before .match2 .keys1))
-    (within-in _ _ _ refl (omega (arith, last-addition (a .h) _ (adds at))))
-    (c .link .ensures)
-
-returns-4 : tie.Need-returns-4
-unfolding processOf memoryOf asFun effect onward sawLeft atStep cellAt readOf left
-returns-4 c =
-    let a = c .before .before .before .before .before .before .args in
-    let at = c .before .before .before in
-    joined
-    (left-at _ _ (processOf (a .self)) _ (adds at) (tried at) (c .before .before .node-of .ensures) (c .before .match2 .keys2))
-    (within-in _ _ _ refl (omega (arith, last-addition (a .h) _ (adds at))))
-    (record { process = refl; stored = refl; memory = refl })
-
 returns-5 : tie.Need-returns-5
-unfolding processOf memoryOf asFun effect onward sawRight atStep cellAt readOf right
-returns-5 c =
-    let a = c .before .before .before .before .before .before .args in
-    let at = c .before .before .before in
-    joined
-    (right-at _ _ (processOf (a .self)) _ (adds at) (tried at) (c .before .before .node-of .ensures) (c .before .match2 .keys3))
-    (within-in _ _ _ refl (omega (arith, last-addition (a .h) _ (adds at))))
-    (record { process = refl; stored = refl; memory = refl })
+returns-5 c = c .store .ensures
 
 returns-6 : tie.Need-returns-6
-unfolding processOf effect afterStore
-returns-6 c =
-    let a = c .before .before .before .before .before .before .before .before .args in
-    let at = c .before .before .before .before .before in
-    let other = c .before .before .before .match2 .rest in
-    joined (store-at _ _ (processOf (a .self)) _ (adds at) (tried at) (c .before .before .before .before .node-of .ensures) (fourth (a .self .step - 3) (other .0 .0 .1) (other .0 .1) (other .1))) (rw (last-addition (a .h) _ (adds at))) (c .store .ensures)
+returns-6 c = absurd (omega (arith, c .before .before .pre .busy))
 
 returns-7 : tie.Need-returns-7
-returns-7 c = absurd (omega arith)
-
-returns-8 : tie.Need-returns-8
-returns-8 c =
-    let s = c .before .before .before in
-    let adds = addition-past-1 _ _ _ (s .pre) (omega arith) in
-    absurd (omega (arith, last-addition (s .args .h) _ adds))
+returns-7 c =
+    let at = c .before .before .before in
+    absurd (omega (arith, at .pre .last, last-few (at .args .f) (at .pre .known) (at .args .p) (at .args .self .adds)))
 
 pub next-spec : {M : Type 1} → statement M
 next-spec =
     tie.close
     (tie.spec
-    read-requires
-    wrapping-add-u32-requires
-    leaf-of-requires
-    put-value-requires
+    (λ c κs. search needs)
+    (λ c κs. search needs)
+    (λ c κs. search needs)
+    (λ c κs. search needs)
+    (λ c κs. search needs)
     node-of-requires
-    sub-i
-    link-requires
-    mul-next
-    mul-next-2
-    element-copy-out-next
-    add-next
-    mul-next-3
-    add-next-2
-    mul-next-4
-    element-copy-out-next-2
-    add-next-3
-    store-requires
+    (λ c κs. search needs)
     returns
+    (λ c κs. search needs)
+    (λ c. search needs)
+    (λ c κs. search needs)
+    (λ c κs. search needs)
+    (λ c. search needs)
     returns-2
+    store-requires
     returns-3
     returns-4
     returns-5
     returns-6
-    returns-7
-    returns-8)
+    returns-7)

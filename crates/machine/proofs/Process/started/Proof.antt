@@ -11,22 +11,19 @@ use Rattle.machine.proofs.Process.started.Tie as tie
 abbrev set : ℕ → Bool → ℕ → Record → Record
 set i adds delta r =
     record {
-      step = 1;
-      operation = i;
-      adds = adds;
       delta = delta;
       seen = r .seen;
       «seen_left» = r .«seen_left»;
       «seen_right» = r .«seen_right»;
+      operation = i;
+      step = 1;
+      adds = adds;
       stored = r .stored;
     }
-
-idle-requires : tie.Need-idle-requires
-idle-requires c κs = search needs
 
 returns : tie.Need-returns
 unfolding idleRecord startedRecord
 returns c = ap (set (c .before .args .operation) (c .before .args .adds) (c .before .args .delta)) (c .idle .ensures)
 
 pub started-spec : {M : Type 1} → statement M
-started-spec = tie.close (tie.spec idle-requires returns)
+started-spec = tie.close (tie.spec (λ c κs. search needs) returns)

@@ -1,0 +1,16 @@
+pub mod Turns
+pub mod Did
+pub mod Good
+pub mod Held
+pub mod StepCount
+pub mod Alone
+pub mod Levels
+pub mod Counting
+pub mod Waiters
+pub mod Listing
+pub mod Placed
+pub mod Contention
+pub mod Busy
+pub mod UnderWay
+pub mod Passing
+pub mod Accepted

@@ -1,0 +1,1 @@
+// What holds of the history and the rows after any accepted records, with no code.

@@ -1,0 +1,3 @@
+pub mod Spot
+pub mod Got
+pub mod Lawful
