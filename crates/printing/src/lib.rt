@@ -14,7 +14,7 @@ ghost use Rattle.laying.specs.Lays.{Lays};
 ghost use Rattle.printing.specs.Prints.{Prints};
 
 // One byte more than the longest, so that a longer one shows.
-const MOST_TAKEN_IN: usize = LONGEST_RECORDING + 1;
+pub const MOST_TAKEN_IN: usize = LONGEST_RECORDING + 1;
 
 // That the buffer has its length, for the proofs.
 fn sized(out: [u8; LONGEST_TEXT]) -> bool

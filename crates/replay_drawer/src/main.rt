@@ -7,6 +7,7 @@ use libc::STDIN_FILENO;
 use libc::STDOUT_FILENO;
 use lines::LONGEST_TEXT;
 use lines::lay_refusal;
+use printing::MOST_TAKEN_IN;
 use printing::print_in_drawer;
 use recording::number;
 ghost use Prim.Native.Nat.{_+_, _≤_, _<_};
@@ -167,7 +168,7 @@ fn print_piece(
 {
     let at = here.at;
     let before = here.held;
-    let wanted = least(piece, 65537);
+    let wanted = least(piece, MOST_TAKEN_IN);
     let held = hold(window, before, at, wanted);
     let start = at - held.from;
     let end = start + wanted;
