@@ -24,15 +24,15 @@ half n = go (leb 4 (n % 8)) refl
     go false e = omega (arith, leb-false 4 (n % 8) e)
 
 -- a step from 3 on is an addition's
-climbs : (f : Told) (p s : ℕ) (adds : Bool) → f .shape ≤ highestShape → 3 ≤ s → s ≤ lastStep (formed f) p adds
-    → At (formed f) p s (record { level = (s - 3) / 8; second = leb 4 ((s - 3) % 8); position = (s - 3) % 4 })
-climbs f p s adds shape past last =
+climbs : (f : Told) (p s : ℕ) (adds : Bool) (l i : ℕ) → f .shape ≤ highestShape → 3 ≤ s → s ≤ lastStep (formed f) p adds → l ≡ (s - 3) / 8 → i ≡ (s - 3) % 4
+    → At (formed f) p s (record { level = l; second = leb 4 ((s - 3) % 8); position = i })
+climbs f p s adds l i shape past last level position =
     let lawful = taken-lawful (f .shape) shape in
     let even = taken-even (formed f) (f .shape) shape refl in
-    even-at (formed f) 4 p s ((s - 3) / 8) ((s - 3) % 4) (leb 4 ((s - 3) % 8)) lawful even
-    (omega (arith, past, last, even-last (formed f) 4 p adds lawful even))
-    (omega arith)
-    (omega (arith, past, half (s - 3)))
+    even-at (formed f) 4 p s l i (leb 4 ((s - 3) % 8)) lawful even
+    (omega (arith, past, last, even-last (formed f) 4 p adds lawful even, level))
+    (omega (arith, position))
+    (omega (arith, past, half (s - 3), level, position))
 
 returns : tie.Need-returns
 unfolding spotIs nowhere
@@ -46,8 +46,11 @@ returns-2 : tie.Need-returns-2
 unfolding spotIs
 returns-2 c p adds low last =
     let a = c .before .args in
-    let at = climbs (a .f) p (a .s) adds (c .before .pre) (omega (arith, c .if1 .left)) last in
-    record { is = sym (spot-at (formed (a .f)) p (a .s) _ at); level = at .level }
+    let past : 3 ≤ a .s = omega (arith, c .if1 .left) in
+    record {
+      is = sym (spot-at (formed (a .f)) p (a .s) _ (climbs (a .f) p (a .s) adds _ _ (c .before .pre) past last (omega arith) (omega arith)));
+      level = omega (arith, climbs (a .f) p (a .s) adds ((a .s - 3) / 8) ((a .s - 3) % 4) (c .before .pre) past last refl refl .level);
+    }
 
 pub spot-of-spec : {M : Type 1} → statement M
 spot-of-spec = tie.close (tie.spec (λ c κs. search needs) returns returns-2)
