@@ -1,4 +1,6 @@
 // The laws by which an array of numbers is a function of its index, and how the numbers of a row stand in one.
+#![tactic(auto)]
+
 pub const NUMBERS_IN_ROW: usize = 5;
 
 pub const STEPS_IN: usize = 1;

@@ -1,23 +1,25 @@
 // The LL/SC cell of an inner node: a value and the set of processes that are linked to it.
+#![tactic(auto)]
+
 ghost use Rattle.std.specs.Prelude.{◌≡◌};
 ghost use Rattle.cell.specs.Cell.{read_of, state_of, initial};
 ghost use Rattle.cell.specs.Done.{Links, Stores};
 
-#[derive(Drop)]
+#[derive(Clone, Copy)]
 pub struct Cell {
     pub value: u32,
     pub links: u64,
 }
 
 // LL's answer and the cell afterwards.
-#[derive(Drop)]
+#[derive(Clone, Copy)]
 pub struct Loaded {
     pub value: u32,
     pub cell: Cell,
 }
 
 // SC's answer and the cell afterwards.
-#[derive(Drop)]
+#[derive(Clone, Copy)]
 pub struct Stored {
     pub ok: bool,
     pub cell: Cell,

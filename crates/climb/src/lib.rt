@@ -1,4 +1,6 @@
 // The numbers of a climb: a process's leaf, the node of a spot, and what an attempt reads.
+#![tactic(auto)]
+
 ghost use Rattle.std.specs.Prelude.{ℕ, ◌^◌, ◌≤◌, ◌<◌, ◌≡◌, Bool};
 ghost use Rattle.meaning.specs.Shape.{highest_shape, formed};
 ghost use Rattle.spots.specs.Spot.{last_step};
@@ -7,7 +9,7 @@ ghost use Rattle.climb.specs.Climb.{CanClimb, LeafOf, NodeOf, GroupsOf, GroupOf,
 use recording::Form;
 
 // Where in its climb an addition is: how many levels above the first node, the place in the attempt, and which attempt.
-#[derive(Drop)]
+#[derive(Clone, Copy)]
 pub struct Spot {
     pub level: u32,
     pub position: u32,
@@ -15,7 +17,7 @@ pub struct Spot {
 }
 
 // Some children of a node that one access reads: from that number on, so many.
-#[derive(Drop)]
+#[derive(Clone, Copy)]
 pub struct Group {
     pub from: usize,
     pub count: usize,

@@ -1,4 +1,6 @@
 // The contention of the operations under way: for each process the greatest count of busy processes since its start.
+#![tactic(auto)]
+
 ghost use Rattle.std.specs.Prelude.{◌≤◌, ◌<◌, max, ◌≡◌, length};
 ghost use Rattle.arrays.specs.Arrays.{as_fun};
 ghost use Rattle.contention.specs.Greatest.{raised};

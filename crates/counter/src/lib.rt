@@ -1,1 +1,2 @@
 // The counter as an instance of the Tree Algorithm, with no code.
+#![tactic(auto)]

@@ -1,5 +1,7 @@
 // How many of each component's additions are in the node at each level, and in what a process has read but not yet stored. Component q is
 // the leaf that process q writes.
+#![tactic(auto)]
+
 ghost use Rattle.std.specs.Prelude.{ℕ, suc, ◌+◌, ◌*◌, ◌^◌, ◌≤◌, ◌<◌, max, List, [], ◌≡◌, length, get_or};
 ghost use Rattle.meaning.specs.Shape.{formed, highest_shape};
 ghost use Rattle.meaning.specs.Steps.{upd};

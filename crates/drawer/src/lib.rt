@@ -1,4 +1,6 @@
 // A drawer of recordings, end to end: the cut, the bytes needed, and the reports and marks laid.
+#![tactic(auto)]
+
 ghost use Rattle.std.specs.Prelude.{◌+◌, ◌≤◌, ◌<◌, ◌≡◌, cond, ◌∷◌, length, ltb};
 ghost use Rattle.recording.specs.Numbers.{four_bytes};
 ghost use Rattle.meaning.specs.Drawer.{report_of};
@@ -16,7 +18,7 @@ use recording::{
 };
 
 // How a drawer is cut: how many pieces there are and how many bytes their reports have at most; or the offset of the first cut that fails.
-#[derive(Drop)]
+#[derive(Clone, Copy)]
 pub enum Cut {
     Into(usize, usize),
     Fails(usize),

@@ -1,4 +1,6 @@
 // The run over a recording's records, proved equal to the definition's.
+#![tactic(auto)]
+
 ghost use Rattle.std.specs.Prelude.{◌+◌, ◌*◌, ◌^◌, ◌≤◌, ◌<◌, eqb, ◌≡◌, true, length};
 ghost use Rattle.sets.specs.Processes.{count_below, is_in};
 ghost use Rattle.arrays.specs.Arrays.{as_fun};
@@ -17,7 +19,7 @@ use recording::{Cut, Event, FIRST_RECORD, Form};
 
 // What the record at a place comes to: no more records; a refusal and its place; a step or a start that passes, of a process, with what it
 // starts, and the next place.
-#[derive(Drop)]
+#[derive(Clone, Copy)]
 pub enum Tried {
     End,
     Refused(u32, usize),
@@ -26,7 +28,7 @@ pub enum Tried {
 }
 
 // The reply, and for an accepted recording its operations and its counter.
-#[derive(Drop)]
+#[derive(Clone, Copy)]
 pub struct Ended {
     pub number: u32,
     pub place: u32,

@@ -1,4 +1,6 @@
 // Check and report, proved equal to the definitions for every byte string.
+#![tactic(auto)]
+
 ghost use Rattle.std.specs.Prelude.{◌^◌, ◌≤◌, ◌≡◌, length};
 ghost use Rattle.meaning.specs.Shape.{highest_shape};
 ghost use Rattle.meaning.specs.Layout.{head_refusal, height};
@@ -11,7 +13,7 @@ use recording::{MOST_OPERATIONS, ROW_LENGTH};
 
 // A refusal number, or 0, and a place.
 #[repr(C)]
-#[derive(Drop)]
+#[derive(Clone, Copy)]
 pub struct Reply {
     pub number: u32,
     pub place: u32,

@@ -1,1 +1,2 @@
 // What holds of the history and the rows after any accepted records, with no code.
+#![tactic(auto)]

@@ -1,4 +1,6 @@
 // The entries for host programs in C: include/ilvrotse.h declares them.
+#![tactic(auto)]
+
 ghost use Rattle.std.specs.Prelude.{◌≡◌};
 ghost use Rattle.meaning.specs.Report.{check_answer};
 ghost use Rattle.entries.specs.Promises.{answer_of, Reports};

@@ -1,4 +1,6 @@
 // What the replay keeps beside the memory: the counts, the queue of additions that wait to be listed, the ranks and the rows.
+#![tactic(auto)]
+
 ghost use Rattle.std.specs.Prelude.{ℕ, ◌≤◌, ◌≡◌, Bool, true};
 ghost use Rattle.meaning.specs.Shape.{formed, highest_shape};
 ghost use Rattle.spots.specs.Spot.{spot_of, last_step};

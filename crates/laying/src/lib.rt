@@ -1,1 +1,2 @@
 // What laying bytes does to a buffer, with no code.
+#![tactic(auto)]

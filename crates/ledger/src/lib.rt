@@ -1,1 +1,2 @@
 // What the replay keeps beside the memory, with no code.
+#![tactic(auto)]

@@ -1,4 +1,6 @@
 // The text of a report, and of a refusal, laid at the front of a buffer.
+#![tactic(auto)]
+
 ghost use Rattle.std.specs.Prelude.{◌+◌, ◌*◌, ◌/◌, ◌≤◌, ◌≡◌, [], ◌∷◌, ◌++◌, length};
 ghost use Rattle.recording.specs.Numbers.{number_at};
 ghost use Rattle.meaning.specs.Run.{most_operations};

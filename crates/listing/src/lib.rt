@@ -1,4 +1,6 @@
 // The queue of additions that are in their leaves and not yet in node 1, and their listing.
+#![tactic(auto)]
+
 ghost use Rattle.std.specs.Prelude.{◌+◌, ◌*◌, ◌<◌, ◌≡◌, length};
 ghost use Rattle.meaning.specs.Steps.{upd};
 ghost use Rattle.meaning.specs.Run.{most_operations};
@@ -8,7 +10,7 @@ ghost use Rattle.listing.specs.Queue.{queue_of, Lists, CanList};
 use arrays::{NUMBERS_IN_ROW, RANK_IN};
 
 // How many wait, and how many are listed.
-#[derive(Drop)]
+#[derive(Clone, Copy)]
 pub struct Listed {
     pub waiting: usize,
     pub rank: u32,

@@ -1,4 +1,6 @@
 // A process's record, and its next step on the nodes' values and link sets.
+#![tactic(auto)]
+
 ghost use Rattle.std.specs.Prelude.{◌≡◌, ℕ, ◌+◌, ◌<◌, ◌≤◌, true, List, length};
 ghost use Rattle.recording.specs.declared.Form.{Form as Told};
 ghost use Rattle.cell.specs.Cell.{state_of};
@@ -20,7 +22,7 @@ use recording::Form;
 const HIGHEST_STEP: u32 = 50;
 
 // A step number of 0 is idle. `stored` tells whether the latest access was an SC that succeeded.
-#[derive(Drop)]
+#[derive(Clone, Copy)]
 pub struct Process {
     pub step: u32,
     pub delta: u32,
@@ -33,7 +35,7 @@ pub struct Process {
 }
 
 // What has been seen of a node's two children.
-#[derive(Drop)]
+#[derive(Clone, Copy)]
 struct Children {
     left: u32,
     right: u32,

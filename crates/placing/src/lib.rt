@@ -1,4 +1,6 @@
 // What a step takes in, and whom it places in the list: a read at its one step, additions at the store at node 1 that took them in.
+#![tactic(auto)]
+
 ghost use Rattle.std.specs.Prelude.{◌+◌, ◌*◌, ◌^◌, ◌≤◌, ◌<◌, ◌≡◌, length};
 ghost use Rattle.meaning.specs.Shape.{formed};
 ghost use Rattle.arrays.specs.Arrays.{as_fun};

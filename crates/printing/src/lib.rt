@@ -1,4 +1,6 @@
 // The text that the printing programs print of a recording.
+#![tactic(auto)]
+
 ghost use Rattle.std.specs.Prelude.{◌+◌, ◌≤◌, ◌≡◌, ◌++◌, length, take};
 ghost use Rattle.meaning.specs.Printed.{printed, heading_of};
 ghost use Rattle.laying.specs.Lays.{Lays};

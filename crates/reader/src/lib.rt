@@ -1,18 +1,20 @@
 // The reader: it keeps the recording it was lent and its place in it, and hands out one event after another. The borrow checker covers no
 // function over a struct that holds a slice, so each is proved by hand; the work is in `reading_at`, which takes the slice and is covered.
+#![tactic(auto)]
+
 ghost use Rattle.std.specs.Prelude.{◌≡◌};
 ghost use Rattle.reader.specs.Reads.{Reads, ReadsAt, reader_of};
 
 use recording::{Cut, FIRST_RECORD};
 
-#[derive(Drop)]
+#[derive(Clone, Copy)]
 pub struct Reader<'a> {
     pub rec: &'a [u8],
     pub place: usize,
 }
 
 // What is handed out at a place, and the place afterwards.
-#[derive(Drop)]
+#[derive(Clone, Copy)]
 pub struct Reading {
     pub cut: Cut,
     pub place: usize,

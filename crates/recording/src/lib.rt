@@ -1,4 +1,6 @@
 // One record of a recording, read at a place and written at the front of a buffer.
+#![tactic(auto)]
+
 ghost use Rattle.std.specs.Prelude.{◌+◌, ◌*◌, ◌^◌, [], ◌∷◌, ◌≡◌};
 ghost use Rattle.recording.specs.Record.{Cuts, bytes_of};
 ghost use Rattle.recording.specs.Written.{Writes};
@@ -18,7 +20,7 @@ pub const ROW_LENGTH: usize = 20;
 pub const LONGEST_REPORT: usize = 9 + ROW_LENGTH * MOST_OPERATIONS as usize;
 
 // What a process does next, by its process number; an addition with its delta.
-#[derive(Drop)]
+#[derive(Clone, Copy)]
 pub enum Event {
     Step(u8),
     Read(u8),
@@ -26,14 +28,14 @@ pub enum Event {
 }
 
 // The tree that a recording is of: its height, and its shape by number.
-#[derive(Drop)]
+#[derive(Clone, Copy)]
 pub struct Form {
     pub height: u32,
     pub shape: u8,
 }
 
 // What stands at a place: an event and the next place, a record that rule 6 refuses, or the end.
-#[derive(Drop)]
+#[derive(Clone, Copy)]
 pub enum Cut {
     Found(Event, usize),
     Broken(usize),
@@ -41,7 +43,7 @@ pub enum Cut {
 }
 
 // What the writer did: the bytes laid, or the bytes needed.
-#[derive(Drop)]
+#[derive(Clone, Copy)]
 pub enum Written {
     Laid(usize),
     NoRoom(usize),

@@ -1,4 +1,6 @@
 // Reads a recording from standard input and prints its report, or its refusal.
+#![tactic(auto)]
+
 use libc::{STDIN_FILENO, STDOUT_FILENO};
 use lines::LONGEST_TEXT;
 use printing::MOST_TAKEN_IN;

@@ -1,4 +1,6 @@
 // Prints for each recording of a drawer, a file on standard input, its number, its offset and its text; or the refusal of the whole drawer.
+#![tactic(auto)]
+
 ghost use Rattle.std.specs.Prelude.{◌+◌, ◌≤◌, ◌<◌, ◌≡◌, cond, length, ltb};
 ghost use Rattle.meaning.specs.Drawer.{size_at};
 ghost use Rattle.replay_drawer.specs.Sized.{size_by};
@@ -11,7 +13,7 @@ use printing::{MOST_TAKEN_IN, print_in_drawer};
 use recording::number;
 
 // How many bytes the drawer has: a number that it may have, more, or none that can be told.
-#[derive(Drop)]
+#[derive(Clone, Copy)]
 enum Size {
     Of(usize),
     Long,
@@ -19,14 +21,14 @@ enum Size {
 }
 
 // The part of the drawer that the window holds: from which byte on, and how many.
-#[derive(Drop)]
+#[derive(Clone, Copy)]
 struct Held {
     from: usize,
     size: usize,
 }
 
 // How far a pass is: at which cut, after how many recordings, what the window holds, and how many bytes of text wait to be written.
-#[derive(Drop)]
+#[derive(Clone, Copy)]
 struct Here {
     at: usize,
     number: u32,
@@ -35,7 +37,7 @@ struct Here {
 }
 
 // What comes of a cut: a pass that is further on, or why it stops.
-#[derive(Drop)]
+#[derive(Clone, Copy)]
 enum Turn {
     On(Here),
     Fails,
@@ -44,7 +46,7 @@ enum Turn {
 }
 
 // How a pass ends: at the drawer's end, at the offset of a cut that fails, or where the file is not read or the text not written.
-#[derive(Drop)]
+#[derive(Clone, Copy)]
 enum Went {
     Whole,
     Fails(u32),

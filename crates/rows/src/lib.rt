@@ -1,4 +1,6 @@
 // The report's rows as numbers, and their bytes.
+#![tactic(auto)]
+
 ghost use Rattle.std.specs.Prelude.{◌+◌, ◌*◌, ◌≤◌, ◌<◌, ◌≡◌, [], ◌∷◌, length};
 ghost use Rattle.recording.specs.Numbers.{four_bytes};
 ghost use Rattle.meaning.specs.Run.{most_operations};

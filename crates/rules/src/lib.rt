@@ -1,4 +1,6 @@
 // The rules of a recording: its header, and each record by what the run keeps.
+#![tactic(auto)]
+
 ghost use Rattle.std.specs.Prelude.{◌^◌, ◌≤◌, ◌≡◌, [], ◌∷◌, length};
 ghost use Rattle.meaning.specs.Refusals.{◌when◌, first_of};
 ghost use Rattle.meaning.specs.Shape.{formed, highest_shape};

@@ -1,4 +1,6 @@
 // A set of processes 0 to 63, kept as the ones of a u64.
+#![tactic(auto)]
+
 ghost use Rattle.std.specs.Prelude.{◌≡◌};
 ghost use Rattle.sets.specs.Processes.{nobody, with, without, count_below, is_in};
 

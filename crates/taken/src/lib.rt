@@ -1,1 +1,2 @@
 // Which additions are in a node, told by counts, with no code.
+#![tactic(auto)]
