@@ -5,7 +5,7 @@ use mathlib.Core.Path.{◌≡◌, refl, sym, ap, ap₂, ◌∙◌, fun_ext}
 use mathlib.Core.Bool.{Bool, true, false, not, cond, ◌&&◌, ◌||◌}
 use mathlib.Core.List.{List, [], ◌∷◌, ◌++◌, map, map-append}
 use lib.Dec.{ltb, eqb}
-use borrow.Author.Tests.{eqb-true, eqb-false, eq-eqb, ne_eqb, ltb-true, ltb-false, lt-ltb, leb-true, le-leb, not_true}
+use borrow.Author.Tests.{eqb-true, eqb-false, eq-eqb, ne_eqb, ltb-true, ltb-false, lt-ltb, leb-true, le-leb, not-true}
 use Rattle.meaning.specs.Shape.{Form}
 use Rattle.meaning.specs.Tree.{processes}
 use Rattle.meaning.specs.Run.{State}
@@ -97,7 +97,7 @@ module _ (F : Form) (st : State) (d : Demand3 F st) where
   standing_same =
       λ t. record {
         finished = those_meet (λ i. (st.row i).finished) _ (λ i e. eq-eqb (times_in i its) 1 (d.finished i e)) st.operations t;
-        unfinished = those_meet (λ i. not (st.row i).finished) _ (λ i e. le-leb (times_in i its) 1 (d.unfinished i (not_true (st.row i).finished e))) st.operations t;
+        unfinished = those_meet (λ i. not (st.row i).finished) _ (λ i e. le-leb (times_in i its) 1 (d.unfinished i (not-true (st.row i).finished e))) st.operations t;
         reads = those_meet (λ i. eqb (st.row i).kind 2 && not (st.row i).finished) _ never st.operations t;
         strangers = d.strangers st.operations (omega arith) t;
         order = pairs_meet (is_over F st) _ (λ i j e. lt-ltb (rank F st.history i) (rank F st.history j) (over_is i j e)) st.operations st.operations t;
@@ -106,7 +106,7 @@ module _ (F : Form) (st : State) (d : Demand3 F st) where
       never : (i : ℕ) → (eqb (st.row i).kind 2 && not (st.row i).finished) ≡ true → eqb (times_in i its) 0 ≡ true
       never i e =
           let v = and_both (eqb (st.row i).kind 2) _ e in
-          eq-eqb (times_in i its) 0 (d.reads i (eqb-true (st.row i).kind 2 v.0) (not_true (st.row i).finished v.1))
+          eq-eqb (times_in i its) 0 (d.reads i (eqb-true (st.row i).kind 2 v.0) (not-true (st.row i).finished v.1))
 
   pub numbers_same : numbers_seen F st ≡ numbers_given F st
   unfolding numbers_seen numbers_given
@@ -119,7 +119,7 @@ module _ (F : Form) (st : State) (d : Demand3 F st) where
         reads = map_same (λ i. is_done 2 (st.row i)) _ _ (λ i e. let v = done 2 i e in d.read_steps i v.1 v.0) st.operations t;
         additions = map_same (λ i. is_done 3 (st.row i)) _ _ (λ i e. let v = done 3 i e in (d.addition_steps i v.1 v.0).0) st.operations t;
         seconds = those_meet (λ i. is_done 3 (st.row i)) _ (λ i e. let v = done 3 i e in le-leb (st.row i).seconds F.height (d.addition_steps i v.1 v.0).1) st.operations t;
-        bound = those_meet (λ i. not (st.row i).finished) _ (λ i e. lt-ltb (st.row i).steps (2 + 8 * F.height) (d.bound i (not_true (st.row i).finished e))) st.operations t;
+        bound = those_meet (λ i. not (st.row i).finished) _ (λ i e. lt-ltb (st.row i).steps (2 + 8 * F.height) (d.bound i (not-true (st.row i).finished e))) st.operations t;
         idles = map_same anyone _ _ (λ p e. d.idles p) (processes F.height) t;
       }
 

@@ -7,7 +7,7 @@ use mathlib.Core.Bool.{Bool, true, false, not, cond}
 use mathlib.Core.List.{List, ◌∷◌}
 use lib.ListN.{length}
 use lib.Dec.{eqb}
-use borrow.Author.Tests.{eqb-true, eqb-false, eq-eqb, ne_eqb, not_true}
+use borrow.Author.Tests.{eqb-true, eqb-false, eq-eqb, ne_eqb, not-true}
 use Rattle.sets.proofs.Laws.{count_same, count_differ, count_le}
 use Rattle.meaning.proofs.Updates.{upd_same, upd_other}
 use Rattle.meaning.specs.Shape.{Form}
@@ -28,7 +28,7 @@ busy_else f p r q n = ap (λ (x : Process). not (eqb x.step 0)) (upd_other f p r
 
 pub is_busy : (f : ℕ → Process) (p : ℕ) → busy f p ≡ true → 1 ≤ (f p).step
 unfolding busy
-is_busy f p b = let n = eqb-false (f p).step 0 (not_true (eqb (f p).step 0) b) in omega arith
+is_busy f p b = let n = eqb-false (f p).step 0 (not-true (eqb (f p).step 0) b) in omega arith
 
 pub is_idle : (f : ℕ → Process) (p : ℕ) → busy f p ≡ false → (f p).step ≡ 0
 unfolding busy

@@ -3,7 +3,7 @@ use Prim.Native.Nat.{ℕ, max, ◌≤◌, ◌<◌}
 use native.Mathlib.Nat.{max-zero}
 use native.Mathlib.Omega.{arith}
 use mathlib.Core.Path.{◌≡◌, refl, sym, ap₂, ◌∙◌}
-use mathlib.Core.Bool.{Bool, true, false, not, cond, ◌&&◌, ◌||◌, and_false, true≢false}
+use mathlib.Core.Bool.{Bool, true, false, not, cond, ◌&&◌, ◌||◌, and-false, true≢false}
 use mathlib.Core.List.{List, [], ◌∷◌}
 use lib.ListN.{length}
 use lib.Dec.{leb, ltb}
@@ -20,7 +20,7 @@ module _ (w : Row) (k : ℕ) where
 
   pub from_last_step : w.finished ≡ true → w.ended ≤ k → during w k ≡ false
   unfolding during
-  from_last_step f h = rw (f, le-ltb k w.ended h) (and_false (leb w.started k))
+  from_last_step f h = rw (f, le-ltb k w.ended h) (and-false (leb w.started k))
 
   pub under_way_lem : w.started ≤ k → (w.finished ≡ true → k < w.ended) → during w k ≡ true
   unfolding during

@@ -4,7 +4,7 @@ use native.Mathlib.Nat.{add-zero}
 use native.Mathlib.Omega.{arith}
 use mathlib.Core.Path.{◌≡◌, refl, sym, ap, ap₂, ◌∙◌, subst}
 use mathlib.Core.Logic.{⊎_elim}
-use mathlib.Core.Bool.{Bool, true, false, not, cond, ◌&&◌, and_false}
+use mathlib.Core.Bool.{Bool, true, false, not, cond, ◌&&◌, and-false}
 use mathlib.Core.List.Memᴰ
 use mathlib.Core.List.{List, [], ◌∷◌, ◌++◌, append-nil, Memᴰ}
 use lib.ListN.{length, length-map}
@@ -104,9 +104,9 @@ module _ (F : Form) (p : ℕ) (st : State) (s : Stepping F p st) where
       go : (b : Bool) → (b && true) ≡ is_second_link (links (cond b second first) (node_of F p σ))
       go true = refl
       go false = refl
-  second_case (group e σ at i b w n) d = rw (spot_at F p (st.process p).step σ at, ne_eqb σ.position 0 (λ z. omega arith)) (and_false σ.second)
+  second_case (group e σ at i b w n) d = rw (spot_at F p (st.process p).step σ at, ne_eqb σ.position 0 (λ z. omega arith)) (and-false σ.second)
   second_case (store e σ at w n) d =
-      rw (spot_at F p (st.process p).step σ at, ne_eqb σ.position 0 (λ z. omega (arith, w, width_is F (node_of F p σ)))) (and_false σ.second)
+      rw (spot_at F p (st.process p).step σ at, ne_eqb σ.position 0 (λ z. omega (arith, w, width_is F (node_of F p σ)))) (and-false σ.second)
 
   pub write_case : {a : Access} → Turn F p (st.process p) st.memory (record_after F p st).step a → (st.process p).adds ≡ true
       → eqb (st.process p).step 2 ≡ is_leaf_write a

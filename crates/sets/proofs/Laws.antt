@@ -1,11 +1,11 @@
 -- Laws of the sets of processes: a number keeps one set, what `with` and `without` leave in place, and how a count changes with them.
 use Prim.Native.Nat.{ℕ, zero, suc, ◌+◌, ◌-◌, ◌/◌, ◌%◌, ◌^◌, ◌≤◌, ◌<◌}
-use mathlib.Core.Bool.{Bool, true, false, not, cond, or_true, or_false, and_true, and_false, true≢false}
+use mathlib.Core.Bool.{Bool, true, false, not, cond, or-true, or-false, and-true, and-false, true≢false}
 use mathlib.Core.Path.{◌≡◌, refl, sym, ap, ap₂, ◌∙◌, fun_ext}
 use native.Mathlib.Decide.{ℕ_discrete, le_ind}
 use native.Mathlib.Nat.{pow-suc, zero-div, div-eq_of_lt, sub-add_cancel, lt_of_not-le}
 use native.Mathlib.Omega.{arith}
-use borrow.Author.Tests.{eq-eqb, ne_eqb, lt-ltb, le-ltb, not_true}
+use borrow.Author.Tests.{eq-eqb, ne_eqb, lt-ltb, le-ltb, not-true}
 use lib.Dec.{eqb}
 use lib.Pow.{pow_mono}
 use Rattle.sets.specs.Processes.{nobody, with, without, count_below, is_in}
@@ -41,23 +41,23 @@ is_in-below b p h e = lt_of_not-le (λ l. true≢false (sym e ∙ is_in_beyond b
 
 pub with_same : (p : ℕ) (s : ℕ → Bool) → p < 64 → with p s p ≡ true
 unfolding with
-with_same p s h = rw (eq-eqb p p refl, lt-ltb p 64 h) (or_true (s p))
+with_same p s h = rw (eq-eqb p p refl, lt-ltb p 64 h) (or-true (s p))
 
 pub with_other : (p q : ℕ) (s : ℕ → Bool) → (q ≡ p → ⊥) → with p s q ≡ s q
 unfolding with
-with_other p q s n = rw (ne_eqb q p n) (or_false (s q))
+with_other p q s n = rw (ne_eqb q p n) (or-false (s q))
 
 pub with_beyond : (p : ℕ) (s : ℕ → Bool) → 64 ≤ p → with p s ≡ s
 unfolding with
-with_beyond p s h = fun_ext (λ q. rw (le-ltb p 64 h, and_false) (or_false (s q)))
+with_beyond p s h = fun_ext (λ q. rw (le-ltb p 64 h, and-false) (or-false (s q)))
 
 pub without_same : (p : ℕ) (s : ℕ → Bool) → without p s p ≡ false
 unfolding without
-without_same p s = rw (eq-eqb p p refl) (and_false (s p))
+without_same p s = rw (eq-eqb p p refl) (and-false (s p))
 
 pub without_other : (p q : ℕ) (s : ℕ → Bool) → (q ≡ p → ⊥) → without p s q ≡ s q
 unfolding without
-without_other p q s n = rw (ne_eqb q p n) (and_true (s q))
+without_other p q s n = rw (ne_eqb q p n) (and-true (s q))
 
 -- sets that agree at p and at every other process are equal
 at_all : (p : ℕ) (s t : ℕ → Bool) → s p ≡ t p → ((q : ℕ) → (q ≡ p → ⊥) → s q ≡ t q) → s ≡ t
@@ -81,7 +81,7 @@ pub is_in-without : (p b : ℕ) → is_in b p ≡ true → is_in (b - 2 ^ p) ≡
 is_in-without p b e =
     let a = b - 2 ^ p in
     let back : a + 2 ^ p ≡ b = sub-add_cancel (holds p b e) in
-    let out : is_in a p ≡ false = not_true _ (sym (flips p a) ∙ ap (λ (x : ℕ). is_in x p) back ∙ e) in
+    let out : is_in a p ≡ false = not-true _ (sym (flips p a) ∙ ap (λ (x : ℕ). is_in x p) back ∙ e) in
     is_without p (is_in b) (is_in a) out (λ q n. sym (stays p a q out n) ∙ ap (λ (x : ℕ). is_in x q) back)
 
 -- ---- counts

@@ -44,7 +44,7 @@ module _ {A : Type 0} (T : Tree A) (L : Laws T) (p : ℕ) (m m' : Memory A) (r r
       record {
         mono = λ x y d h o. omega (arith, s.count x d (L.parts h o), s.count y d o, places.mono x y d h o);
         cap = λ y d o. omega (arith, s.count y d o, places.cap y d o, s.count (T.leaf d) d (L.lies o));
-        values = λ y. s.value y ∙ places.values y ∙ L.Joined-of y _ _ (λ d o. sym (ap (m'.history d) (s.count y d o) ∙ s.remembers.still d (m.count y d) (places.cap y d o)));
+        values = λ y. s.value y ∙ places.values y ∙ L.joined_of y _ _ (λ d o. sym (ap (m'.history d) (s.count y d o) ∙ s.remembers.still d (m.count y d) (places.cap y d o)));
       }
 
   -- ---- resting, LL, child reads, failed SC
@@ -165,9 +165,9 @@ module _ {A : Type 0} (T : Tree A) (L : Laws T) (p : ℕ) (m m' : Memory A) (r r
         mine_of y h o (earlier g v e) = omega (arith, e c o, old.mine y refl g h o)
 
         saw_of : (y : ℕ) → T.Child x y → Got T y m r r' → r'.seen y ≡ T.joined y (λ d. m'.history d (r'.holds d))
-        saw_of y h (now v e) = v ∙ sym (s.stays.value y) ∙ places''.values y ∙ L.Joined-of y _ _ (λ d o. ap (m'.history d) (s.stays.count y d o ∙ sym (e d o)))
+        saw_of y h (now v e) = v ∙ sym (s.stays.value y) ∙ places''.values y ∙ L.joined_of y _ _ (λ d o. ap (m'.history d) (s.stays.count y d o ∙ sym (e d o)))
         saw_of y h (earlier g v e) =
-            v ∙ old.saw y refl g h ∙ still_saw T L p r m m' f places y r.holds (λ d o. old.most y d refl g h o) ∙ L.Joined-of y _ _ (λ d o. ap (m'.history d) (sym (e d o)))
+            v ∙ old.saw y refl g h ∙ still_saw T L p r m m' f places y r.holds (λ d o. old.most y d refl g h o) ∙ L.joined_of y _ _ (λ d o. ap (m'.history d) (sym (e d o)))
 
         now_climbing : Climbing T m' p (trying c k x second true) r'.got r'.seen r'.holds
         now_climbing =
@@ -284,7 +284,7 @@ module _ {A : Type 0} (T : Tree A) (L : Laws T) (p : ℕ) (m m' : Memory A) (r r
         values_of : (y : ℕ) → m'.value y ≡ T.joined y (λ d. m'.history d (m'.count y d))
         values_of y =
             by_number y x (λ e. subst⁻¹ (λ (v : ℕ). m'.value v ≡ T.joined v (λ d. m'.history d (m'.count v d))) e here)
-            (λ n. s.elsewhere.value y n ∙ places.values y ∙ L.Joined-of y _ _ (λ d o. sym (ap (m'.history d) (s.elsewhere.count y d n o) ∙ s.remembers.still d (m.count y d) (places.cap y d o))))
+            (λ n. s.elsewhere.value y n ∙ places.values y ∙ L.joined_of y _ _ (λ d o. sym (ap (m'.history d) (s.elsewhere.count y d n o) ∙ s.remembers.still d (m.count y d) (places.cap y d o))))
           where
             whole : (d : ℕ) → T.Over x d → r.holds d ≡ m'.count x d
             whole d o = let v = held d o in omega (arith, s.count d o, v.4)
@@ -297,7 +297,7 @@ module _ {A : Type 0} (T : Tree A) (L : Laws T) (p : ℕ) (m m' : Memory A) (r r
             here : m'.value x ≡ T.joined x (λ d. m'.history d (m'.count x d))
             here =
                 s.value ∙ L.node_of x r.seen (λ z. T.joined z (λ d. m.history d (r.holds d))) w.0 (λ z h. old.saw z refl (s.read z h) h)
-                ∙ sym (L.at_node x (λ d. m.history d (r.holds d)) w.0) ∙ L.Joined-of x _ _ known
+                ∙ sym (L.at_node x (λ d. m.history d (r.holds d)) w.0) ∙ L.joined_of x _ _ known
 
   -- ---- the write at a component
 
@@ -345,4 +345,4 @@ module _ {A : Type 0} (T : Tree A) (L : Laws T) (p : ℕ) (m m' : Memory A) (r r
       values_of y =
           by_number y (T.leaf c)
           (λ e. subst⁻¹ (λ (v : ℕ). m'.value v ≡ T.joined v (λ d. m'.history d (m'.count v d))) e (s.value ∙ sym (L.at_leaf c (λ d. m'.history d (m'.count (T.leaf c) d)) s.leaf)))
-          (λ n. s.elsewhere.value y n ∙ places.values y ∙ L.Joined-of y _ _ (λ d o. sym (ap (m'.history d) (s.elsewhere.count y d n o) ∙ s.remembers.still d (m.count y d) (places.cap y d o))))
+          (λ n. s.elsewhere.value y n ∙ places.values y ∙ L.joined_of y _ _ (λ d o. sym (ap (m'.history d) (s.elsewhere.count y d n o) ∙ s.remembers.still d (m.count y d) (places.cap y d o))))

@@ -27,7 +27,7 @@ module _ {A : Type 0} (T : Tree A) where
     pub still_saw : (y : ℕ) (holds : ℕ → ℕ) → ((d : ℕ) → T.Over y d → holds d ≤ m.count y d)
         → T.joined y (λ d. m.history d (holds d)) ≡ T.joined y (λ d. m'.history d (holds d))
     still_saw y holds most =
-        L.Joined-of y _ _ (λ d o. sym (f.remembers.still d (holds d) (omega (arith, most d o, places.cap y d o))))
+        L.joined_of y _ _ (λ d o. sym (f.remembers.still d (holds d) (omega (arith, most d o, places.cap y d o))))
 
     -- another process q
     module _ (q : ℕ) (n : q ≡ p → ⊥) (t : Climber A) (c : ClimbingOf T m q t) (pair : PairOf T m q t p r) where

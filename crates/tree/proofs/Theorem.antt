@@ -21,7 +21,7 @@ module _ {A : Type 0} (T : Tree A) (L : Laws T) where
             record {
               mono = λ x y d h o. omega (arith, none x d);
               cap = λ y d o. omega (arith, none y d);
-              values = λ y. values y ∙ L.Joined-of y _ _ (λ d o. ap (s.memory.history d) (sym (none y d)));
+              values = λ y. values y ∙ L.joined_of y _ _ (λ d o. ap (s.memory.history d) (sym (none y d)));
             };
         climbing = λ p. (resting T L s.memory p s.process (s.process p) (idle p) (λ o. omega (arith, unwritten p))).climbing;
         pair = λ p q. record { carried = λ y a b same risk l g h o. absurd (true_false (sym a ∙ idle p)) };

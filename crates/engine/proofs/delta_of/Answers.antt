@@ -1,0 +1,16 @@
+-- `delta_of` meets its contract: each arm, at the event that the pattern took apart.
+use mathlib.Core.Path.{sym, ap}
+use Rattle.engine.specs.Ends.{delta_of}
+use Rattle.engine.proofs.delta_of.Goals as goal
+
+pub returns-in-Step : goal.returns-in-Step
+unfolding delta_of
+returns-in-Step c = sym (ap delta_of c.in-Step.is)
+
+pub returns-in-Read : goal.returns-in-Read
+unfolding delta_of
+returns-in-Read c = sym (ap delta_of c.in-Read.is)
+
+pub returns-in-Add : goal.returns-in-Add
+unfolding delta_of
+returns-in-Add c = sym (ap delta_of c.in-Add.is)

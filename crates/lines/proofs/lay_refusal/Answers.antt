@@ -1,0 +1,13 @@
+-- `lay_refusal`: four parts one after another.
+use borrow.Author.Rules.{rules}
+use Rattle.meaning.specs.Printed.{text}
+use Rattle.laying.proofs.Laid.{lays_then, lays_as}
+use Rattle.lines.proofs.Texts.{refusal_parts}
+use Rattle.lines.proofs.lay_refusal.Goals as goal
+
+pub returns : goal.returns
+unfolding text
+returns c =
+    let place = c in
+    let number = place in
+    let word = number in record { lays = lays_as (refusal_parts _ _) (lays_then (lays_then (lays_then word.lay_word-next.ensures number.lay_field-next.ensures.lays) place.lay_field-next-2.ensures.lays) c.end_line.ensures.lays); upper_bound = search rules }
