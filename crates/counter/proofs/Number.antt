@@ -34,7 +34,7 @@ pub run_same : (f g : ℕ → Row) (v : ℕ) (l : List ℕ) → ((i : ℕ) → M
 unfolding run_down number_after
 run_same f g v [] e = refl
 run_same f g v (i ∷ l) e =
-    ap (λ (n : ℕ). run_down f n l) (ap₂ (λ (k d : ℕ). cond (eqb k 3) (plus v d) v) (e i (Memᴰ.head refl)).0 (e i (Memᴰ.head refl)).1) ∙ run_same f g _ l (λ j m. e j (Memᴰ.tail m))
+    ap (λ (n : ℕ). run_down f n l) (ap₂ (λ (k d : ℕ). cond (eqb k 3) (plus v d) v) (e i (Memᴰ.head refl)).0 (e i (Memᴰ.head refl)).1) ∙ run_same f g (number_after (g i) v) l (λ j m. e j (Memᴰ.tail m))
 
 -- ---- the leaf writes as a log of the tree's components
 

@@ -167,6 +167,7 @@ module _ (F : Form) (p : ℕ) (r : Process) (m : Memory) (can : CanTurn F p r) w
             passes = passes_done F p σ ok d
 
             below_or_at : (l h : ℕ) → l < h → (suc l < h) ⊎ (suc l ≡ h)
+            below_or_at l zero c = elim c [ ]
             below_or_at l (suc zero) c = inr (omega arith)
             below_or_at zero (suc (suc h)) c = inl (omega arith)
             below_or_at (suc l) (suc (suc h)) c = ⊎_elim (λ u. inl (omega arith)) (λ u. inr (omega arith)) (below_or_at l (suc h) (omega arith))
@@ -208,6 +209,7 @@ module _ (F : Form) (p : ℕ) (r : Process) (m : Memory) (can : CanTurn F p r) w
 
   -- a step number is 1, 2 or of an attempt
   one_two_more : (n : ℕ) → 1 ≤ n → (n ≡ 1) ⊎ ((n ≡ 2) ⊎ (3 ≤ n))
+  one_two_more zero b = elim b [ ]
   one_two_more (suc zero) b = inl refl
   one_two_more (suc (suc zero)) b = inr (inl refl)
   one_two_more (suc (suc (suc n))) b = inr (inr (omega arith))

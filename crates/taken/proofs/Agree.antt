@@ -83,6 +83,7 @@ turn_below {c} (here {e} {es} w o q t) = rw (w, eq-eqb c (component_of e.access)
 turn_below (there w) = omega (arith, turn_below w)
 
 in_leaf_lem : {i c k : ℕ} {old es : List Entry} → Once es → Writes i c k es → Before old es → in_leaf i old ≡ ltb k (writes_to c old)
+in_leaf_lem none w _ = elim w [ ]
 in_leaf_lem (more n o) (here w x q t) same = written (here w x q t) ∙ sym (lt-ltb _ _ (turn_below (here w x q t)))
 in_leaf_lem {i} {c} {k} {old} (more n o) (here {e} {es} w x q t) (later b) =
     in_before i b (ap (λ (j : ℕ). in_leaf j es) (sym x) ∙ n w) ∙ sym (le-ltb k (writes_to c old) (omega (arith, by_before c b)))
