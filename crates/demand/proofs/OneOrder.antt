@@ -26,6 +26,7 @@ times_mem i l b = ⊎_elim (λ z. absurd (omega (arith, times_not i l (λ m. lis
 
 pub mem_times : (i : ℕ) (l : List ℕ) → Memᴰ i l → 1 ≤ times_in i l
 unfolding times_in
+mem_times i [] m = elim m [ ]
 mem_times i (x ∷ l) (Memᴰ.head e) = rw (eq-eqb i x e) (omega arith)
 mem_times i (x ∷ l) (Memᴰ.tail m) = omega (arith, mem_times i l m)
 

@@ -4,7 +4,6 @@ use Rattle.std.specs.Prelude.{ℕ, zero, suc, ◌+◌, Bool, true, false, cond, 
 use Rattle.sets.specs.Processes.{nobody, with, without, count_below, is_in}
 use Rattle.cell.specs.Cell as Cells
 use Rattle.cell.specs.Cell.{read_of, load_linked, succeeds, store_conditional, state_of}
-use Rattle.cell.specs.declared.Cell.{Cell}
 use Rattle.recording.specs.Numbers.{four_bytes, number_at}
 use Rattle.recording.specs.Record.{Answer, bytes_of, in_table, cut_at, cut_answer, read_answer}
 use Rattle.recording.specs.Written.{write_answer, write_buffer, written_answer}

@@ -2,7 +2,7 @@
 use Rattle.std.specs.Prelude.{ℕ, zero, suc, List, [], ◌∷◌, ◌++◌, map}
 use Rattle.meaning.specs.Tree.{leaf_of, parent}
 use Rattle.meaning.specs.Access.{Access, reads_root, links, reads, stores, Attempt, first, second}
-use Rattle.meaning.specs.Shape.{Group, Form}
+use Rattle.meaning.specs.Shape.{Form}
 
 -- "one attempt of four steps: LL; read the left child; read the right child; SC": what is read in between is told by the shape
 unfoldable pub attempt : Form → Attempt → ℕ → List Access

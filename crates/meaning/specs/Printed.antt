@@ -1,9 +1,7 @@
 -- What the printing program prints.
-use Rattle.std.specs.Prelude.{ℕ, zero, suc, ◌+◌, ◌/◌, ◌%◌, Bool, cond, List, [], ◌∷◌, ◌++◌, take, ltb, eqb}
+use Rattle.std.specs.Prelude.{ℕ, zero, suc, ◌+◌, ◌/◌, ◌%◌, cond, List, [], ◌∷◌, ◌++◌, take, ltb, eqb}
 use Prim.Native.Char.{code}
 use Prim.Native.String.{String}
-use Prim.Native.String
-use Rattle.recording.specs.Record.{Answer}
 use Rattle.meaning.specs.Layout.{form_of}
 use Rattle.meaning.specs.Tree.{root}
 use Rattle.meaning.specs.Shape.{Form}

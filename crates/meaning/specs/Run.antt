@@ -1,5 +1,5 @@
 -- The run over the records: starts, steps, the row and the history that they leave, and refusals 7 to 10.
-use Rattle.std.specs.Prelude.{ℕ, zero, suc, ◌+◌, ◌^◌, Bool, true, false, not, cond, ◌&&◌, List, [], ◌∷◌, length, leb, eqb}
+use Rattle.std.specs.Prelude.{ℕ, zero, suc, ◌+◌, Bool, true, false, not, cond, ◌&&◌, List, [], ◌∷◌, length, leb, eqb}
 use Rattle.sets.specs.Processes.{nobody, count_below}
 use Rattle.recording.specs.Record.{Answer}
 use Rattle.recording.specs.declared.Event.{Event}

@@ -11,7 +11,7 @@ lay_number-requires c =
 
 pub shape_of-marks : goal.shape_of-marks
 shape_of-marks c =
-    c.lay_number.auto.0 ∙ simp length-set
+    c.lay_number.auto.out ∙ simp length-set
 
 pub returns : goal.returns
 returns c =

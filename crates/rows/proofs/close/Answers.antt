@@ -1,6 +1,5 @@
 -- `close`. The loop's invariant: the first i rows are closed, and the array keeps its length. The measure is the rows left.
 use Prim.Native.Nat.{◌-◌, ◌/◌}
-use mathlib.Core.Logic.{⊎_elim}
 use mathlib.Core.Path.{◌≡◌, refl}
 use lib.ListN.{get_or, length-set}
 use borrow.Author.Rules.{rules}
@@ -11,6 +10,7 @@ use Rattle.rows.specs.Rows.{process_by}
 use Rattle.rows.proofs.Laws.{closed_none}
 use Rattle.rows.proofs.Stores.{first_number, finished_stays, unfinished_stored}
 use Rattle.rows.proofs.close.Goals as goal
+use Rattle.rows.proofs.close.Goals.{then-head-eq0, else-head-eq0}
 
 pub loop-i-init : goal.loop-i-init
 loop-i-init c =
@@ -46,10 +46,10 @@ unfolding as_fun process_by
 loop-i-preserved c =
     let loop = c.loop-i in
     let before = loop.invariant in
-    ⊎_elim
-    (λ w. rw w.2 (search rules, simp length-set before.1, unfinished_stored _ _ loop.i loop.rows before.2 (omega arith) (omega (arith, w.0.taken))))
-    (λ w. rw w.1 (search rules, before.1, finished_stays _ _ loop.i loop.rows before.2 (omega (arith, w.0.left))))
-    c.if-head-eq0.branch
+    elim c.if-head-eq0.branch [
+      | then-head-eq0 w ↦ rw w.rows-is (search rules, simp length-set before.1, unfinished_stored _ _ loop.i loop.rows before.2 (omega arith) (omega (arith, w.if-head-eq0.true)))
+      | else-head-eq0 w ↦ rw w.rows-is (search rules, before.1, finished_stays _ _ loop.i loop.rows before.2 (omega (arith, w.if-head-eq0.false)))
+    ]
 
 pub returns : goal.returns
 returns c =

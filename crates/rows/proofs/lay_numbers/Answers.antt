@@ -20,7 +20,7 @@ unfolding as_fun
 loop-j-preserved c =
     let laid = c.lay_number in
     let inv = c.loop-j.invariant in
-    (search rules, laid.auto.0 ∙ inv.1, laid.ensures ∙ rw inv.2 (one_more_laid _ _ _ (omega arith)))
+    (search rules, laid.auto.out ∙ inv.1, laid.ensures ∙ rw inv.2 (one_more_laid _ _ _ (omega arith)))
 
 pub shape_of-out : goal.shape_of-out
 shape_of-out c =

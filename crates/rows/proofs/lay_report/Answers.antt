@@ -11,17 +11,17 @@ lay_number-requires c =
 
 pub lay_number-requires-2 : goal.lay_number-requires-2
 lay_number-requires-2 c =
-    omega (arith, simp length-set at c.lay_number.auto.0)
+    omega (arith, simp length-set at c.lay_number.auto.out)
 
 pub lay_numbers-requires : goal.lay_numbers-requires
 lay_numbers-requires c =
-    let first = simp length-set at c.lay_number.auto.0 in
-    let second = c.lay_number-2.auto.0 in
+    let first = simp length-set at c.lay_number.auto.out in
+    let second = c.lay_number-2.auto.out in
     (omega arith, omega arith, omega arith)
 
 pub shape_of-out : goal.shape_of-out
 shape_of-out c =
-    c.lay_numbers.auto.0 ∙ c.lay_number-2.auto.0 ∙ c.lay_number.auto.0 ∙ simp length-set
+    c.lay_numbers.auto.out ∙ c.lay_number-2.auto.out ∙ c.lay_number.auto.out ∙ simp length-set
 
 pub returns : goal.returns
 returns c =
