@@ -100,7 +100,7 @@ fn leaves_under(n: usize, l: usize) -> usize
 }
 
 // The first component whose leaf lies under the node l levels above that of p.
-fn first_under_lem(l: usize, p: usize) -> usize
+fn first_under(l: usize, p: usize) -> usize
     requires l_bound { l ≤ 6 }
     requires p_bound { p < 64 }
     ensures { (result ≡ first_under l p) × (result + 2 ^ l ≤ 64) }
@@ -127,7 +127,7 @@ fn attempt(
         return;
     }
     let l = spot.level as usize;
-    let lo = first_under_lem(l + 1, p);
+    let lo = first_under(l + 1, p);
     if i <= climb::groups(f) {
         let g = climb::group_at(f, i - 1);
         let from = lo + leaves_under(g.from, l);

@@ -1,5 +1,4 @@
 -- `copy_row`: each turn stores the next count in the row.
-use Prim.Native.Nat.{◌-◌}
 use mathlib.Core.Path.{refl}
 use Rattle.arrays.specs.Arrays.{as_fun}
 use Rattle.counts.proofs.Filled.{no_row, same_rows, more_row, all_row}

@@ -1,5 +1,4 @@
 -- `store`: each turn stores the greater of the next two counts in the row; that of the node is still the one it was.
-use Prim.Native.Nat.{◌-◌}
 use Rattle.arrays.specs.Arrays.{as_fun, as_rows}
 use Rattle.counts.proofs.Filled.{untouched, no_row, same_rows, more_row, all_row}
 use Rattle.counts.proofs.Stores.{node_stored_lem}

@@ -1,10 +1,9 @@
 -- `list_in` meets its contract: the invariant is that the first j entries are listed, and each branch lists one more.
-use Prim.Native.Nat.{◌-◌}
-use mathlib.Core.Logic.{⊎_elim}
 use Rattle.arrays.specs.Arrays.{as_fun}
 use Rattle.listing.proofs.Loop.{starts, room, lists_it, keeps_it, all_listed}
 use native.Mathlib.Omega.{arith}
 use Rattle.listing.proofs.list_in.Goals as goal
+use Rattle.listing.proofs.list_in.Goals.{then-t-count, else-t-count}
 
 pub loop-j-init : goal.loop-j-init
 loop-j-init c =
@@ -91,8 +90,10 @@ unfolding as_fun
 loop-j-preserved c =
     let inv = c.loop-j.invariant in
     let taken = c.loop-j-test.true in
-    ⊎_elim (λ w. rw (w.1, w.2, w.3, w.4, w.5) (lists_it inv taken (omega (arith, w.0.taken))))
-    (λ w. rw (w.1, w.2, w.3, w.4, w.5) (keeps_it inv taken (omega arith) (omega (arith, w.0.left)))) c.if-t-count.branch
+    elim c.if-t-count.branch [
+      | then-t-count w ↦ rw (w.queue-is, w.turns-is, w.rows-is, w.rank-is, w.kept-is) (lists_it inv taken (omega (arith, w.if-t-count.true)))
+      | else-t-count w ↦ rw (w.queue-is, w.turns-is, w.rows-is, w.rank-is, w.kept-is) (keeps_it inv taken (omega arith) (omega (arith, w.if-t-count.false)))
+    ]
 
 pub shape_of-queue : goal.shape_of-queue
 shape_of-queue c =

@@ -4,10 +4,8 @@ use mathlib.Core.Path.{◌≡◌, sym, ap, ◌∙◌}
 use native.Mathlib.Nat.{mul-le-mul_right, suc-mul}
 use native.Mathlib.Omega.{arith}
 use lib.Pow.{pow-add, shr_le, shr_lt, shl_exact}
-use borrow.Author.Rules.{rules}
 use Rattle.counts.specs.Counts.{first_under}
-use Rattle.counts.proofs.first_under.Statement.{statement}
-use Rattle.counts.proofs.first_under.Tie as tie
+use Rattle.counts.proofs.first_under.Goals as goal
 
 under_is : (l p : ℕ) → l ≤ 6 → p < 64 → p / 2 ^ l * 2 ^ l % 2 ^ 64 ≡ first_under l p
 unfolding first_under
@@ -21,8 +19,5 @@ under_fits l p h k =
     let part : p / 2 ^ l < 2 ^ (6 - l) = shr_lt (6 - l) l (rw six k) in
     omega (arith, mul-le-mul_right (2 ^ l) part, suc-mul (p / 2 ^ l) (2 ^ l))
 
-returns : tie.Need-returns
-returns c = let is = under_is _ _ c.requires.0 c.requires.1 in (is, rw is (under_fits _ _ c.requires.0 c.requires.1))
-
-pub first_under_spec : {M : Type 1} → statement M
-first_under_spec = tie.close (tie.spec (λ c. search rules) (λ c. search rules) returns)
+pub returns : goal.returns
+returns c = let is = under_is _ _ c.requires.l_bound c.requires.p_bound in (is, rw is (under_fits _ _ c.requires.l_bound c.requires.p_bound))
