@@ -4,4 +4,4 @@ use Rattle.arrays.proofs.Laws.{fun_set}
 use Rattle.machine.proofs.put_links.Goals as goal
 
 pub returns : goal.returns
-returns c = fun_set _ _ _ (omega (arith, c.«sized-links».ensures))
+returns c = fun_set _ _ _ (omega (arith, c.sized_links.ensures))

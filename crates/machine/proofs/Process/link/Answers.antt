@@ -13,10 +13,8 @@ use Rattle.machine.proofs.Process.link.Goals as goal
 pub returns : goal.returns
 unfolding process_of effect onward at_step
 returns c f σ adds there first =
-    let loads = c in
-    let at = loads in
-    let a = at.args in
-    let cell = loads.ll-loaded.ensures.cell ∙ ap (load_linked _) loads.cell_at.ensures in
+    let a = c.args in
+    let cell = c.ll-loaded.ensures.cell ∙ ap (load_linked _) c.cell_at.ensures in
     let room : suc σ.position < width (formed f) a.x = omega (arith, first, width_is (formed f) a.x) in
     joined
     (link_is f a.p a.self a.x σ adds there first)

@@ -1,5 +1,4 @@
 -- `next`: each arm is the access that the step number says.
--- the record at step k with those children seen
 use Rattle.std.proofs.Common.{◌≡◌, ℕ, suc, ◌+◌, ◌<◌, ◌≤◌, length, refl, ap, ◌∙◌, arith}
 use Rattle.cell.specs.Cell.{read_of}
 use Rattle.meaning.specs.Shape.{plus, formed}
@@ -15,46 +14,44 @@ use Rattle.machine.proofs.Known.{lawful, last_three, last_few, addition_past_1}
 use Rattle.machine.proofs.Joined.{joined}
 use Rattle.machine.proofs.Stored.{value_stored}
 use Rattle.machine.proofs.Tried.{adding, can_climb, there_at, look_is, stores_at, on_step}
+use Rattle.machine.proofs.Process.next.Goals.{After-spot_of-spot}
 use Rattle.machine.proofs.Process.next.Goals as goal
 
+-- the record at step k with those children seen
 abbrev sees : ℕ → Record → (ℕ → ℕ) → Process
 sees k r seen = record { step = k; operation = r.operation; adds = r.adds; delta = r.delta; seen = r.seen; children = seen }
 
 -- in the arm of the attempts
-past_2 : (c : goal.In_default-1) → 3 ≤ c.args.self.step
+past_2 : (c : After-spot_of-spot) → 3 ≤ c.args.self.step
 past_2 c = omega (arith, c.requires.busy)
 
-spot_there : (c : goal.After-spot_of-spot) → SpotAt c.args.f c.args.p c.args.self.step c.spot_of-spot.result
-spot_there c =
-    let at = c in
-    c.spot_of-spot.ensures at.args.p at.args.self.adds at.requires.known.low at.requires.last
+spot_there : (c : After-spot_of-spot) → SpotAt c.args.f c.args.p c.args.self.step c.spot_of-spot.result
+spot_there c = c.spot_of-spot.ensures c.args.p c.args.self.adds c.requires.known.low c.requires.last
 
 pub node_of-x-requires : goal.node_of-x-requires
-node_of-x-requires c =
-    let at = c in
-    can_climb at.args.f at.args.p at.args.self at.requires (past_2 c) _ (spot_there c)
+node_of-x-requires c = can_climb c.args.f c.args.p c.args.self c.requires (past_2 c) _ (spot_there c)
 
 pub returns-then-i-eq0 : goal.returns-then-i-eq0
 returns-then-i-eq0 c =
-    let at = c in
-    let a = at.args in
-    let past = past_2 c in
-    let spot = spot_there c in
-    c.link.ensures a.f _ (adding a.f a.p a.self at.requires past _ spot)
-    (there_at a.f a.p a.self at.requires past _ spot _ c.node_of-x.ensures)
+    let a = c.args in
+    let at = (goal.at.returns-then-i-eq0 c).After-spot_of-spot in
+    let past = past_2 at in
+    let spot = spot_there at in
+    c.link.ensures a.f _ (adding a.f a.p a.self c.requires past _ spot)
+    (there_at a.f a.p a.self c.requires past _ spot _ c.node_of-x.ensures)
     (omega (arith, c.if-i-eq0.true))
 
 pub returns-then-i-groups : goal.returns-then-i-groups
 unfolding process_of memory_of effect onward saw_children at_step cell_at read_of
 returns-then-i-groups c =
-    let at = c in
-    let a = at.args in
-    let past = past_2 c in
-    let spot = spot_there c in
+    let a = c.args in
+    let at = (goal.at.returns-then-i-groups c).After-spot_of-spot in
+    let past = past_2 at in
+    let spot = spot_there at in
     let σ = c.spot_of-spot.result in
     let x = c.node_of-x.result in
-    let adds = adding a.f a.p a.self at.requires past _ spot in
-    let there = there_at a.f a.p a.self at.requires past _ spot _ c.node_of-x.ensures in
+    let adds = adding a.f a.p a.self c.requires past _ spot in
+    let there = there_at a.f a.p a.self c.requires past _ spot _ c.node_of-x.ensures in
     let inside : σ.position ≤ length ((formed a.f).shape.groups a.f.height x) = omega (arith, c.groups.ensures.is x, c.if-i-groups.true) in
     let room : suc σ.position < width (formed a.f) x = omega (arith, inside, width_is (formed a.f) x) in
     joined
@@ -64,25 +61,27 @@ returns-then-i-groups c =
 
 pub store-requires : goal.store-requires
 store-requires c =
-    let at = c in
-    let a = at.args in
-    let past = past_2 c in
-    let spot = spot_there c in
+    let a = c.args in
+    let at = (goal.at.store-requires c).After-spot_of-spot in
+    let past = past_2 at in
+    let spot = spot_there at in
     let node = c.node_of-x.ensures in
-    let adds = adding a.f a.p a.self at.requires past _ spot in
-    let there = there_at a.f a.p a.self at.requires past _ spot _ node in
-    let sc = stores_at a.f a.p a.self _ _ adds there _ c.groups.ensures (omega (arith, c.if-i-groups.false)) in
-    (at.requires.known, (adds, (there, (sc, (node.high, omega arith)))))
-
-pub returns-in-1 : goal.returns-in-1
-returns-in-1 c = c.read.ensures _
+    let was = adding a.f a.p a.self c.requires past _ spot in
+    let place = there_at a.f a.p a.self c.requires past _ spot _ node in
+    record {
+      known = c.requires.known;
+      adds_value = was;
+      there = place;
+      stores = stores_at a.f a.p a.self _ _ was place _ c.groups.ensures (omega (arith, c.if-i-groups.false));
+      x_bound = node.high;
+      step_le_highest_step = omega arith;
+    }
 
 pub returns-in-2 : goal.returns-in-2
 unfolding process_of effect onward at_step plus
 returns-in-2 c =
-    let at = c in
-    let a = at.args in
-    let can = at.requires in
+    let a = c.args in
+    let can = c.requires in
     let two : a.self.step ≡ 2 = c.in-2.is in
     let adds = addition_past_1 a.f a.p a.self can (omega (arith, two)) in
     let add = c.wrapping_add_u32-sum in
@@ -96,13 +95,6 @@ returns-in-2 c =
       memory = value_stored _ _ _ _ _ c.put_value.ensures ∙ rw c.leaf_of.ensures.is (ap (with_value _ _) sum);
     })
 
-pub returns-else-i-groups : goal.returns-else-i-groups
-returns-else-i-groups c = c.store.ensures
-
-pub returns-in_default : goal.returns-in_default
-returns-in_default c = absurd (omega (arith, c.requires.busy))
-
 pub returns-in_default-2 : goal.returns-in_default-2
 returns-in_default-2 c =
-    let at = c in
-    absurd (omega (arith, at.requires.last, last_few at.args.f at.requires.known at.args.p at.args.self.adds))
+    absurd (omega (arith, c.requires.last, last_few c.args.f c.requires.known c.args.p c.args.self.adds))

@@ -16,23 +16,21 @@ use Rattle.machine.proofs.Process.read.Goals as goal
 pub returns-then-self : goal.returns-then-self
 unfolding process_of memory_of as_fun effect onward saw_it at_step
 returns-then-self c sets =
-    let at = c in
-    let a = at.args in
-    let can = at.requires.can_step in
+    let a = c.args in
+    let can = c.requires.can_step in
     let adds = c.if-self.true in
     joined
-    (of_leaf (formed a.f) a.p (process_of a.self) (lawful a.f can.known) adds at.requires.step_value)
-    (within_in _ 2 _ (omega (arith, at.requires.step_value)) (omega (arith, last_three a.f can.known a.p a.self.adds adds)))
+    (of_leaf (formed a.f) a.p (process_of a.self) (lawful a.f can.known) adds c.requires.step_value)
+    (within_in _ 2 _ (omega (arith, c.requires.step_value)) (omega (arith, last_three a.f can.known a.p a.self.adds adds)))
     (record { process = rw (← c.leaf_of.ensures.is); stored = refl; memory = refl })
 
 pub returns-else-self : goal.returns-else-self
 unfolding process_of memory_of as_fun effect onward saw_it at_step cell_at read_of root
 returns-else-self c sets =
-    let at = c in
-    let a = at.args in
-    let can = at.requires.can_step in
+    let a = c.args in
+    let can = c.requires.can_step in
     let adds = c.if-self.false in
     joined
-    (of_read_lem (formed a.f) a.p (process_of a.self) adds at.requires.step_value)
+    (of_read_lem (formed a.f) a.p (process_of a.self) adds c.requires.step_value)
     (within_end _ _ (omega (arith, last_read (formed a.f) a.p a.self.adds adds)))
     (record { process = refl; stored = refl; memory = refl })

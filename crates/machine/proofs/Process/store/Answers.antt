@@ -17,7 +17,7 @@ pub after-requires : goal.after-requires
 unfolding spot_is
 after-requires c =
     let pre = c.requires in
-    (pre.0.shape, (pre.1.1.1.1.1, pre.1.1.0.at.level))
+    record { shape_le_highest_shape = pre.known.shape; s_le_highest_step = pre.step_le_highest_step; level_lt_height = pre.there.at.level }
 
 pub returns : goal.returns
 unfolding effect plus seen_by process_of at_step
@@ -25,14 +25,13 @@ returns c =
     let did = c.sc-done in
     let was = c.cell_at.ensures in
     let add = c.wrapping_add_u32-sum in
-    let at = c in
-    let a = at.args in
+    let a = c.args in
     let r = a.self in
     let F = formed a.f in
-    let known = at.requires.known in
-    let adds = at.requires.adds_value.0 in
-    let there = at.requires.adds_value.1.0 in
-    let sc = at.requires.adds_value.1.1.0 in
+    let known = c.requires.known in
+    let adds = c.requires.adds_value in
+    let there = c.requires.there in
+    let sc = c.requires.stores in
     let m = memory_of a.vals.now a.links.now in
     let sum : add.result ≡ plus r.seen_left r.seen_right = omega (arith, add.ensures) in
     let joint = sum ∙ sym ((lawful a.f known).sums a.f.height a.x (seen_by r.seen_left r.seen_right)) in
