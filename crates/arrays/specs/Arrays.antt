@@ -1,5 +1,5 @@
 -- Arrays as functions of the index: what the definitions say of functions, the code does to arrays.
-use Rattle.std.specs.Prelude.{ℕ, Bool, cond, ◌&&◌, List, [], get_or, leb, ltb}
+use Rattle.std.specs.Prelude.{ℕ, cond, ◌&&◌, List, [], get_or, leb, ltb}
 
 unfoldable pub as_fun : List ℕ → ℕ → ℕ
 as_fun xs i = get_or xs i 0

@@ -13,7 +13,7 @@ use Rattle.meaning.specs.Shape.{Form}
 use Rattle.meaning.specs.Steps.{idle as idleProcess}
 use Rattle.meaning.specs.Run.{Row, State, blank, initial, started, kind_of, new_row, start, row_after, most_operations, take_step}
 use Rattle.meaning.proofs.Updates.{upd_other}
-use Rattle.spots.specs.Spot.{Spot, attempt_at, width, below, place_in, node_of, step_of, At, onward, again, upward, passed, last_step}
+use Rattle.spots.specs.Spot.{Spot, attempt_at, width, place_in, node_of, step_of, At, onward, again, upward, passed, last_step}
 use Rattle.spots.proofs.Laws.{width_is, addition_long, same_spot, at_again, at_upward, at_late, last_addition, last_read}
 use Rattle.spots.specs.Lawful.{Lawful}
 use Rattle.history.proofs.Turns.{false_true, first_spot, reads_the_root, Turn, root, leaf, write, link, group, store, After, retry, up, done}

@@ -1,5 +1,4 @@
 -- `lay_rows`. The loop's invariant: the lines of the first i rows are laid, each of at most 82 bytes. The measure is the rows left.
-use Prim.Native.Nat.{◌-◌}
 use mathlib.Core.Path.{◌≡◌}
 use borrow.Author.Rules.{rules}
 use native.Mathlib.Numerals.{add-one}

@@ -1,5 +1,4 @@
 -- `lay_word`. The loop's invariant: the first j bytes of the word are laid. The measure is the bytes left.
-use Prim.Native.Nat.{◌-◌}
 use lib.Seq.{take_all, length-take-le}
 use borrow.Author.Rules.{rules}
 use Rattle.laying.proofs.Laid.{lays_none, lays_as, lays_more}

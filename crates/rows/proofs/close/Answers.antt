@@ -1,5 +1,5 @@
 -- `close`. The loop's invariant: the first i rows are closed, and the array keeps its length. The measure is the rows left.
-use Prim.Native.Nat.{◌-◌, ◌/◌}
+use Prim.Native.Nat.{◌/◌}
 use mathlib.Core.Path.{◌≡◌, refl}
 use lib.ListN.{get_or, length-set}
 use borrow.Author.Rules.{rules}

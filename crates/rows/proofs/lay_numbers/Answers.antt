@@ -1,5 +1,4 @@
 -- `lay_numbers`. The loop's invariant: the first j numbers are laid, and the buffer keeps its length. The measure is the numbers left.
-use Prim.Native.Nat.{◌-◌}
 use mathlib.Core.Path.{◌≡◌, refl, ◌∙◌}
 use Rattle.arrays.specs.Arrays.{as_fun}
 use Rattle.rows.proofs.Stores.{none_laid, one_more_laid}
