@@ -95,7 +95,7 @@ module _ (F : Form) (p : ℕ) (st : State) (s : Stepping F p st) where
 
   second_case : {a : Access} → Turn F p (st.process p) st.memory (record_after F p st).step a → (st.process p).adds ≡ true
       → second_link (spot_of F p (st.process p).step) ≡ is_second_link a
-  unfolding second_link is_second_link attempt_at
+  unfolding second_link is_second_link attempt_at node_of
   second_case (root e w z) d = absurd (false_true (sym e ∙ d))
   second_case (leaf e w z) d = rw (early (omega arith))
   second_case (write e w z n) d = rw (early (omega arith))
