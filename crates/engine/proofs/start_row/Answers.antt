@@ -1,5 +1,4 @@
 -- `start_row` meets its contract: the kind by the branch, and the count of ones as the count of the set; or nothing to show.
-use mathlib.Core.Logic.{⊎_elim}
 use mathlib.Core.Path.{sym, ◌∙◌}
 use mathlib.Core.Bool.{true, false}
 use Rattle.sets.specs.Processes.{is_in}
@@ -7,6 +6,7 @@ use Rattle.sets.proofs.Laws.{count_le}
 use Rattle.history.proofs.Turns.{false_true}
 use Rattle.engine.proofs.Fresh.{kind_of_lem, fresh_row, raised_by}
 use native.Mathlib.Omega.{arith}
+use Rattle.engine.proofs.start_row.Goals.{then-adds, else-adds}
 use Rattle.engine.proofs.start_row.Goals as goal
 
 pub start_row-requires : goal.start_row-requires
@@ -22,8 +22,10 @@ raise-requires c = (c.requires.1, (c.requires.2 c.if-asked.true).1)
 pub returns-after-adds : goal.returns-after-adds
 returns-after-adds c =
     λ a. (
-      ⊎_elim (λ w. fresh_row _ _ _ _ _ _ c.start_row.ensures (w.1 ∙ kind_of_lem _ true w.0.taken))
-          (λ w. fresh_row _ _ _ _ _ _ c.start_row.ensures (w.1 ∙ kind_of_lem _ false w.0.left)) c.if-adds.branch,
+      elim c.if-adds.branch [
+        | then-adds w ↦ fresh_row _ _ _ _ _ _ c.start_row.ensures (w.kind-is ∙ kind_of_lem _ true w.if-adds.true)
+        | else-adds w ↦ fresh_row _ _ _ _ _ _ c.start_row.ensures (w.kind-is ∙ kind_of_lem _ false w.if-adds.false)
+      ],
       raised_by _ _ _ c.raise.ensures c.count.ensures,
     )
 
