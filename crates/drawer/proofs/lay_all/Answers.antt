@@ -62,11 +62,11 @@ bytes_of-laid-requires c =
 
 pub overflow_add-laid : goal.overflow_add-laid
 overflow_add-laid c =
-    omega (arith, c.well-formed.1.0.0, c.bytes_of-laid.ensures, c.loop-at.invariant.0.reports_laid.same, c.lay_piece-e.ensures.laid.place, room_report _ _ _ _ _ _ _ _ c.loop-at.invariant.0 c.requires _ c.loop-at-test.true (size_always _ _ _ _ _ c.loop-at.invariant.0.reached c.requires.cut c.loop-at-test.true c.size_at-size.ensures) _ (piece_lent c.args.s.now c.loop-at.at c.size_at-size.result))
+    omega (arith, c.well_formed.1.0.0, c.bytes_of-laid.ensures, c.loop-at.invariant.0.reports_laid.same, c.lay_piece-e.ensures.laid.place, room_report _ _ _ _ _ _ _ _ c.loop-at.invariant.0 c.requires _ c.loop-at-test.true (size_always _ _ _ _ _ c.loop-at.invariant.0.reached c.requires.cut c.loop-at-test.true c.size_at-size.ensures) _ (piece_lent c.args.s.now c.loop-at.at c.size_at-size.result))
 
 pub overflow_add-marked : goal.overflow_add-marked
 overflow_add-marked c =
-    omega (arith, c.well-formed.1.1.0.0, c.loop-at.invariant.0.marks_laid.same, room_mark _ _ _ _ _ _ _ _ c.loop-at.invariant.0 c.requires _ c.loop-at-test.true (size_always _ _ _ _ _ c.loop-at.invariant.0.reached c.requires.cut c.loop-at-test.true c.size_at-size.ensures) _ (piece_lent c.args.s.now c.loop-at.at c.size_at-size.result))
+    omega (arith, c.well_formed.1.1.0.0, c.loop-at.invariant.0.marks_laid.same, room_mark _ _ _ _ _ _ _ _ c.loop-at.invariant.0 c.requires _ c.loop-at-test.true (size_always _ _ _ _ _ c.loop-at.invariant.0.reached c.requires.cut c.loop-at-test.true c.size_at-size.ensures) _ (piece_lent c.args.s.now c.loop-at.at c.size_at-size.result))
 
 pub overflow_add-at-in-loop-at : goal.overflow_add-at-in-loop-at
 overflow_add-at-in-loop-at c =
