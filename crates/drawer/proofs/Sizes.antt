@@ -1,7 +1,7 @@
 -- The size of a piece, and the bytes of its report at most, by the tests that the code makes.
 use Prim.Native.Nat.{ℕ, ◌+◌, ◌-◌, ◌*◌, ◌/◌, ◌^◌, min, ◌≤◌, ◌<◌}
 use native.Mathlib.Omega.{arith}
-use mathlib.Core.Path.{◌≡◌, refl, subst, subst⁻¹}
+use mathlib.Core.Path.{◌≡◌, refl, subst⁻¹}
 use mathlib.Core.Bool.{Bool, true, false, cond}
 use mathlib.Core.List.{List}
 use lib.ListN.{length, get_or}

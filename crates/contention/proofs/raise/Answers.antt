@@ -1,5 +1,4 @@
 -- `raise`: each turn raises the next number.
-use Prim.Native.Nat.{◌-◌}
 use Rattle.arrays.specs.Arrays.{as_fun}
 use Rattle.contention.proofs.Raised.{none, more, all}
 use native.Mathlib.Omega.{arith}

@@ -1,5 +1,4 @@
 -- `cut_all`. The loop's invariant: the pieces before the place are cut, counted, and their most bytes added. The measure is the bytes left.
-use Prim.Native.Nat.{◌-◌}
 use Rattle.drawer.specs.Cuts.{Cuts}
 use Rattle.drawer.proofs.Reached.{reached_broken}
 use Rattle.drawer.proofs.Alone.{most_small}

@@ -1,6 +1,5 @@
 -- `lay_all`. The loop's invariant: the reports and marks of the pieces before the place are laid, and the arrays are as long as they were made.
 -- The measure is the bytes left.
-use Prim.Native.Nat.{◌-◌}
 use mathlib.Core.Path.{refl}
 use Rattle.drawer.proofs.Reached.{piece_lent}
 use Rattle.drawer.proofs.Passes.{size_always, laid_none, room_report, room_mark, laid_next, laid_all, lent_room}

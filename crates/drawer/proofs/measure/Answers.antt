@@ -1,6 +1,5 @@
 -- `measure`. The loop's invariant: the pieces before the place count with their reports' bytes, the others with their most. The measure is the
 -- bytes left.
-use Prim.Native.Nat.{◌-◌}
 use mathlib.Core.Path.{refl}
 use Rattle.drawer.proofs.Alone.{report_few}
 use Rattle.drawer.proofs.Reached.{piece_lent}

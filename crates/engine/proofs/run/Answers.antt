@@ -1,5 +1,5 @@
 -- `run` meets its contract: each way out is one of the invariant's, and each turn takes it on by one record.
-use Prim.Native.Nat.{◌+◌, ◌-◌}
+use Prim.Native.Nat.{◌+◌}
 use mathlib.Core.Path.{refl}
 use Rattle.arrays.specs.Arrays.{as_fun}
 use Rattle.climb.specs.Climb.{nowhere}

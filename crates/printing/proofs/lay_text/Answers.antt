@@ -1,5 +1,5 @@
 -- `lay_text`. The loop's invariant: the first j bytes of the text are laid. The measure is the bytes left.
-use Prim.Native.Nat.{◌+◌, ◌-◌}
+use Prim.Native.Nat.{◌+◌}
 use native.Mathlib.Nat.{add-zero, add_assoc}
 use native.Mathlib.Omega.{arith}
 use mathlib.Core.Path.{◌≡◌, refl}
