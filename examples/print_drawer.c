@@ -1,9 +1,9 @@
 /* Prints a line for each recording of a drawer: its number, its offset, and its refusal or its operations and counter; one line where the
  * drawer itself is refused. A host program over the library, to start from.
  *
- * Build and run it, from the repository's root, with the library in target/staticlib (`rt staticlib ilvrotse` puts it there):
+ * Build and run it, from the repository's root, with the library that `rt lib` leaves in crates/ilvrotse/out:
  *
- *     gcc -I include -o target/print_drawer examples/print_drawer.c target/staticlib/libilvrotse.a
+ *     gcc -I include -o target/print_drawer examples/print_drawer.c crates/ilvrotse/out/libilvrotse.a
  *     cat recordings/a.rec recordings/b.rec >target/two.drawer
  *     target/print_drawer target/two.drawer
  *

@@ -1,8 +1,8 @@
 /* Prints the report of a recording, or its refusal, as the printing program does: a host program over the library, to start from.
  *
- * Build and run it, from the repository's root, with the library in target/staticlib (`rt staticlib ilvrotse` puts it there):
+ * Build and run it, from the repository's root, with the library that `rt lib` leaves in crates/ilvrotse/out:
  *
- *     gcc -I include -o target/print_report examples/print_report.c target/staticlib/libilvrotse.a
+ *     gcc -I include -o target/print_report examples/print_report.c crates/ilvrotse/out/libilvrotse.a
  *     target/print_report recordings/c.rec
  *
  * The library is for x86-64 Linux. On another processor `tools/build-host examples/print_report.c target/print_report` takes the place of

@@ -12,7 +12,7 @@ need_drawer
 here=$PWD
 copy=$here/target/tests/anew
 rm -rf "$copy"
-mkdir -p "$copy/path" "$copy/tests" "$copy/crates/engine/src"
+mkdir -p "$copy/path" "$copy/tests" "$copy/crates/engine/src" "$copy/crates/ilvrotse" "$copy/crates/replay" "$copy/crates/replay_drawer"
 cp -R tools include recordings crates.txt "$copy"
 cp -R tests/lib "$copy/tests"
 
@@ -23,11 +23,11 @@ cat >"$copy/path/rt" <<RT
 [ "\$1" != doc ] || exec "$real" doc
 echo "\$*" >>"$copy/asked"
 [ ! -f "$copy/unproved" ] || exit 1
-mkdir -p target/staticlib target/bin
-case \$* in
-'staticlib ilvrotse') cp "$here/$library" "$library" ;;
-'check replay') cp "$here/$replay" "$replay" ;;
-'check replay_drawer') cp "$here/$drawer" "$drawer" ;;
+mkdir -p out
+case \$(basename "\$PWD")' '\$* in
+'ilvrotse lib') cp "$here/$library" out/libilvrotse.a ;;
+'replay run') cp "$here/$replay" out/replay ;;
+'replay_drawer run') cp "$here/$drawer" out/replay_drawer ;;
 *) exit 2 ;;
 esac
 RT

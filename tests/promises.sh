@@ -40,7 +40,7 @@ theorems=0
 while IFS=$'\t' read -r name file; do
   theorems=$((theorems + 1))
   grep -qE "^ *pub $name " "$file" 2>/dev/null || wrong "$file has no $name"
-done < <(tr '\n' ' ' <"$page" | grep -oE '`[a-zA-Z-]+`( and `[a-zA-Z-]+`)? +(\(|in )`crates/[a-z_]+/proofs/[A-Za-z]+\.antt`' |
+done < <(tr '\n' ' ' <"$page" | grep -oE '`[a-zA-Z0-9_-]+`( and `[a-zA-Z0-9_-]+`)? +(\(|in )`crates/[a-z_]+/proofs/[A-Za-z]+\.antt`' |
   awk '{ n = split($0, part, "`"); for (i = 2; i < n - 2; i += 2) print part[i] "\t" part[n - 1] }')
 [ "$theorems" -ge 15 ] || wrong "only $theorems theorems"
 echo "$seen functions, $theorems theorems"

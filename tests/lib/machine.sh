@@ -20,26 +20,26 @@ library=target/staticlib/libilvrotse.a
 replay=target/bin/replay
 drawer=target/bin/replay_drawer
 
-# need_built OUT WORDS..: OUT, built anew by `rt WORDS` where a source is newer. It is given the time at which the build began, so that a source
-# changed meanwhile is newer still.
+# need_built OUT CRATE MADE WORD: OUT, a copy of what `rt WORD` leaves as out/MADE in that crate, built anew where a source is newer. It is given
+# the time at which the build began, so that a source changed meanwhile is newer still.
 need_built() {
-    built=$1
-    shift
-    [ ! -f "$built" ] || [ -n "$(find crates crates.txt -newer "$built" -print -quit)" ] || return 0
+    built=$1 crate=$2 made=crates/$2/out/$3 word=$4
+    [ ! -f "$built" ] || [ -n "$(find crates crates.txt -name out -prune -o -newer "$built" -print -quit)" ] || return 0
     need rt
-    echo "proving and building $built: a few minutes where nothing is proved yet" >&2
-    mkdir -p target
+    echo "proving and building $built: some minutes where nothing is proved yet" >&2
+    mkdir -p "$(dirname "$built")"
     : >target/begun
-    rm -f target/failed
-    { rt "$@" 2>&1 || : >target/failed; } | tee target/said | sed -un '/^rt: /p' >&2
-    [ ! -f target/failed ] || { cat target/said >&2; fail "rt $* failed"; }
-    [ -f "$built" ] || fail "rt $* does not build $built"
+    rm -f target/failed "$made"
+    { (cd "crates/$crate" && rt "$word" </dev/null) 2>&1 || : >target/failed; } | tee target/said | sed -un '/^rt: /p' >&2
+    [ ! -f target/failed ] || { cat target/said >&2; fail "rt $word failed in crates/$crate"; }
+    [ -f "$made" ] || fail "rt $word makes no $made"
+    cp "$made" "$built"
     touch -r target/begun "$built"
 }
 
-need_library() { need_built "$library" staticlib ilvrotse; }
-need_replay() { need_built "$replay" check replay; }
-need_drawer() { need_built "$drawer" check replay_drawer; }
+need_library() { need_built "$library" ilvrotse libilvrotse.a lib; }
+need_replay() { need_built "$replay" replay replay run; }
+need_drawer() { need_built "$drawer" replay_drawer replay_drawer run; }
 
 processor=$(uname -m)
 emulated=no
