@@ -13,7 +13,6 @@ use borrow.Author.Tests.{ltb-true, ltb-false}
 use Rattle.recording.specs.Numbers.{number_at}
 use Rattle.meaning.specs.Drawer.{longest_drawer, size_at}
 use Rattle.replay_drawer.specs.Sized.{size_by}
-use Rattle.replay_drawer.specs.declared.Size.{Size}
 use Rattle.replay_drawer.specs.declared.Size.TheVariants.{Of, Long, Unknown}
 
 pub below : (z : ℤ) → lt_z z (pos 0) ≡ true → Unknown ≡ size_by z

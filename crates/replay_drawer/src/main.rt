@@ -1,4 +1,5 @@
-// Prints for each recording of a drawer, a file on standard input, its number, its offset and its text; or the refusal of the whole drawer.
+// Prints for each recording of a drawer, a file on standard input or one that the argument names, its number, its offset and its text; or the
+// refusal of the whole drawer.
 #![tactic(auto)]
 
 ghost use Rattle.std.specs.Prelude.{◌+◌, ◌≤◌, ◌<◌, ◌≡◌, cond, length, ltb};
@@ -7,10 +8,15 @@ ghost use Rattle.replay_drawer.specs.Sized.{size_by};
 ghost use Rattle.replay_drawer.specs.Pass.{Holds, Goes, Makes, Turns};
 
 use drawer::size_within;
-use libc::{SEEK_END, SEEK_SET, STDERR_FILENO, STDIN_FILENO, STDOUT_FILENO};
+use filling::read_full;
 use lines::{LONGEST_TEXT, lay_refusal};
 use printing::{MOST_TAKEN_IN, print_in_drawer};
 use recording::number;
+use std::env::{Env, FillError};
+use std::fs::{File, Metadata};
+use std::io::{Seek, SeekFrom};
+use std::os::unix::fs::FileTypeExt;
+use std::{fs, str};
 
 // How many bytes the drawer has: a number that it may have, more, or none that can be told.
 #[derive(Clone, Copy)]
@@ -54,7 +60,7 @@ enum Went {
     Unwritten,
 }
 
-// The drawer's size, by where lseek finds its end.
+// The drawer's size, by where a seek finds its end.
 fn size_of(end: i64) -> Size
     ensures { result ≡ size_by end }
 {
@@ -74,17 +80,17 @@ fn least(a: usize, b: usize) -> usize
 }
 
 // The window with so many bytes from a place on, as it is or read anew from there; with fewer where the file has fewer.
-fn hold(window: &mut [u8], held: Held, at: usize, wanted: usize) -> Held
+fn hold(file: &mut File, window: &mut [u8], held: Held, at: usize, wanted: usize) -> Held
     requires { Holds (length window.old) at held × (at ≤ 16777216) × (wanted ≤ 65537) }
     ensures { Holds (length window.old) at result }
 {
     if at + wanted <= held.from + held.size {
         return held;
     }
-    if libc::lseek(STDIN_FILENO, at as i64, SEEK_SET) < 0 {
+    if file.seek(SeekFrom::Start(at as u64)).is_err() {
         return Held { from: at, size: 0 };
     }
-    let size = io::read_full(STDIN_FILENO, window);
+    let size = read_full(file, window);
     Held { from: at, size }
 }
 
@@ -103,39 +109,36 @@ fn size_at(window: &[u8], start: usize, left: usize) -> usize
     size_within(left, follows)
 }
 
-fn say(text: &[u8]) {
-    io::write_all(STDERR_FILENO, text);
+fn say(rt: &HostRuntime, text: &[u8]) {
+    let _ = rt.stderr().write_all(text);
 }
 
-fn send(text: &[u8], n: usize) -> bool
+fn send(rt: &HostRuntime, text: &[u8], n: usize) -> bool
     requires { n ≤ length text.now }
 {
-    io::write_all(STDOUT_FILENO, &text[..n])
+    rt.write_all(&text[..n]).is_ok()
 }
 
-fn tell_one(done: usize, size: usize)
+fn tell_one(rt: &HostRuntime, done: usize, size: usize)
     requires { size ≤ 16777216 }
 {
-    say(b"drawer: ");
-    io::print_decimal(STDERR_FILENO, done as u64);
-    say(b" of ");
-    io::print_decimal(STDERR_FILENO, (size as u64 + 1048575) / 1048576);
-    say(b" MiB\n");
+    let whole = (size + 1048575) / 1048576;
+    let _ = eprintln!(rt; "drawer: {done} of {whole} MiB");
 }
 
 // A line for each whole 1,048,576 bytes between two places of a drawer that has more than these.
-fn tell(from: usize, to: usize, size: usize)
+fn tell(rt: &HostRuntime, from: usize, to: usize, size: usize)
     requires { (to ≤ size) × (size ≤ 16777216) }
 {
     if 1048576 < size {
         for k in from / 1048576..to / 1048576 {
-            tell_one(k + 1, size);
+            tell_one(rt, k + 1, size);
         }
     }
 }
 
 // What waits, written where a heading and a text, 84,048 bytes at most, may find no room after it.
-fn make_room(waiting: &[u8], here: Here) -> Turn
+fn make_room(rt: &HostRuntime, waiting: &[u8], here: Here) -> Turn
     requires { (here.waits ≤ 131072) × (length waiting.now ≡ 131072) }
     ensures { Makes here result }
 {
@@ -143,7 +146,7 @@ fn make_room(waiting: &[u8], here: Here) -> Turn
     if waits <= 47024 {
         return Turn::On(here);
     }
-    if send(waiting, waits) {
+    if send(rt, waiting, waits) {
         let mut next = here;
         next.waits = 0;
         return Turn::On(next);
@@ -153,6 +156,8 @@ fn make_room(waiting: &[u8], here: Here) -> Turn
 
 // The heading and the text of the piece at a cut, put after what waits.
 fn print_piece(
+    rt: &HostRuntime,
+    file: &mut File,
     window: &mut [u8],
     text: &mut [u8; LONGEST_TEXT],
     waiting: &mut [u8],
@@ -167,7 +172,7 @@ fn print_piece(
     let at = here.at;
     let before = here.held;
     let wanted = least(piece, MOST_TAKEN_IN);
-    let held = hold(window, before, at, wanted);
+    let held = hold(file, window, before, at, wanted);
     let start = at - held.from;
     let end = start + wanted;
     if held.size < end {
@@ -177,18 +182,20 @@ fn print_piece(
     let rec = &window[start..end];
     let waits = print_in_drawer(rec, number, at as u32, text, waiting, here.waits);
     let at = at + piece;
-    tell(here.at, at, size);
+    tell(rt, here.at, at, size);
     let next = Here {
         at,
         number,
         held,
         waits,
     };
-    make_room(waiting, next)
+    make_room(rt, waiting, next)
 }
 
 // The cut at which a pass is, and, where texts are to be printed, that of its piece.
 fn cut(
+    rt: &HostRuntime,
+    file: &mut File,
     window: &mut [u8],
     text: &mut [u8; LONGEST_TEXT],
     waiting: &mut [u8],
@@ -207,7 +214,7 @@ fn cut(
         return Turn::Fails;
     }
     let before = here.held;
-    let held = hold(window, before, at, 5);
+    let held = hold(file, window, before, at, 5);
     let start = at - held.from;
     if held.size < start + 5 {
         return Turn::Unread;
@@ -218,17 +225,17 @@ fn cut(
     }
     next.held = held;
     if prints {
-        return print_piece(window, text, waiting, next, piece, size);
+        return print_piece(rt, file, window, text, waiting, next, piece, size);
     }
     next.at = at + piece;
     Turn::On(next)
 }
 
 // What waits, written at the end of a pass.
-fn close(waiting: &[u8], waits: usize, went: Went) -> Went
+fn close(rt: &HostRuntime, waiting: &[u8], waits: usize, went: Went) -> Went
     requires { (waits ≤ 47024) × (length waiting.now ≡ 131072) }
 {
-    if send(waiting, waits) {
+    if send(rt, waiting, waits) {
         went
     } else {
         Went::Unwritten
@@ -236,7 +243,7 @@ fn close(waiting: &[u8], waits: usize, went: Went) -> Went
 }
 
 // A pass over a drawer, cut by cut.
-fn go_over(size: usize, prints: bool) -> Went
+fn go_over(rt: &HostRuntime, file: &mut File, size: usize, prints: bool) -> Went
     requires { size ≤ 16777216 }
 {
     let mut window = [0u8; 131072];
@@ -249,58 +256,116 @@ fn go_over(size: usize, prints: bool) -> Went
         waits: 0,
     };
     while here.at < size {
-        match cut(&mut window, &mut text, &mut waiting, here, size, prints) {
+        match cut(
+            rt,
+            file,
+            &mut window,
+            &mut text,
+            &mut waiting,
+            here,
+            size,
+            prints,
+        ) {
             Turn::On(next) => {
                 here = next;
             }
             Turn::Fails => {
-                return close(&waiting, here.waits, Went::Fails(here.at as u32));
+                return close(rt, &waiting, here.waits, Went::Fails(here.at as u32));
             }
             Turn::Unread => {
-                return close(&waiting, here.waits, Went::Unread);
+                return close(rt, &waiting, here.waits, Went::Unread);
             }
             Turn::Unwritten => {
                 return Went::Unwritten;
             }
         }
     }
-    close(&waiting, here.waits, Went::Whole)
+    close(rt, &waiting, here.waits, Went::Whole)
 }
 
 // Why a pass ended before the drawer's end.
-fn explain(went: Went) {
+fn explain(rt: &HostRuntime, went: Went) {
     match went {
         Went::Whole => {}
-        Went::Fails(_) => say(b"drawer: the file changes while it is read\n"),
-        Went::Unread => say(b"drawer: the file cannot be read\n"),
-        Went::Unwritten => say(b"drawer: the text cannot be written\n"),
+        Went::Fails(_) => say(rt, b"drawer: the file changes while it is read\n"),
+        Went::Unread => say(rt, b"drawer: the file cannot be read\n"),
+        Went::Unwritten => say(rt, b"drawer: the text cannot be written\n"),
     }
 }
 
-fn refuse(number: u32, place: u32) {
+fn refuse(rt: &HostRuntime, number: u32, place: u32) {
     let mut text = [0u8; LONGEST_TEXT];
     let n = lay_refusal(&mut text, number, place);
-    if !send(&text, n) {
-        explain(Went::Unwritten);
+    if !send(rt, &text, n) {
+        explain(rt, Went::Unwritten);
     }
 }
 
 // Every cut to the end first; then every text.
-fn print_all(size: usize)
+fn print_all(rt: &HostRuntime, file: &mut File, size: usize)
     requires { size ≤ 16777216 }
 {
-    let went = go_over(size, false);
+    let went = go_over(rt, file, size, false);
     match went {
-        Went::Whole => explain(go_over(size, true)),
-        Went::Fails(place) => refuse(12, place),
-        _ => explain(went),
+        Went::Whole => explain(rt, go_over(rt, file, size, true)),
+        Went::Fails(place) => refuse(rt, 12, place),
+        _ => explain(rt, went),
     }
 }
 
-fn main() {
-    match size_of(libc::lseek(STDIN_FILENO, 0, SEEK_END)) {
-        Size::Unknown => say(b"drawer: standard input is not a file\n"),
-        Size::Long => refuse(19, 0),
-        Size::Of(size) => print_all(size),
+// Where the file ends; below 0 where it has no places.
+fn end_of(file: &mut File) -> i64 {
+    match file.seek(SeekFrom::End(0)) {
+        Ok(end) => end.cast_signed(),
+        Err(_) => -1,
+    }
+}
+
+// The drawer in a file that is open; what to say where its size cannot be told.
+fn print_drawer(rt: &HostRuntime, file: &mut File, unknown: &[u8]) {
+    match size_of(end_of(file)) {
+        Size::Unknown => say(rt, unknown),
+        Size::Long => refuse(rt, 19, 0),
+        Size::Of(size) => print_all(rt, file, size),
+    }
+}
+
+// A pipe that nobody writes any more is not opened: that would wait for ever.
+fn has_places(of: &Metadata) -> bool {
+    let kind = of.file_type();
+    !kind.is_fifo() && !kind.is_socket()
+}
+
+// The drawer in a file by its path.
+fn print_file(rt: &HostRuntime, path: &str, unknown: &[u8]) {
+    match fs::metadata(rt, path) {
+        Ok(of) if has_places(&of) => match File::open(rt, path) {
+            Ok(mut file) => print_drawer(rt, &mut file, unknown),
+            Err(_) => explain(rt, Went::Unread),
+        },
+        _ => say(rt, unknown),
+    }
+}
+
+fn print_named(rt: &HostRuntime, path: &[u8]) {
+    match str::from_utf8(path) {
+        Ok(path) => print_file(rt, path, b"drawer: the file cannot be read\n"),
+        Err(_) => explain(rt, Went::Unread),
+    }
+}
+
+fn main(rt: HostRuntime) {
+    let mut path = [0u8; 4096];
+    match rt.arg(1, &mut path) {
+        Ok(n) => print_named(&rt, &path[..n]),
+        Err(FillError::TooLong) => explain(&rt, Went::Unread),
+        Err(FillError::NotPresent) => {
+            // standard input cannot seek, but the system opens its file anew by this name
+            print_file(
+                &rt,
+                "/proc/self/fd/0",
+                b"drawer: standard input is not a file\n",
+            );
+        }
     }
 }

@@ -1,6 +1,5 @@
--- `cut`: a piece of five bytes at least is cut, and the pass is further on by it.
-use native.Mathlib.Omega.{arith}
-use borrow.Author.Rules.{rules}
+-- a piece of five bytes at least is cut, and the pass is further on by it
+use Rattle.std.proofs.Common.{rules, arith}
 use Rattle.replay_drawer.specs.Pass.{Turns}
 use Rattle.replay_drawer.proofs.cut.Goals as goal
 

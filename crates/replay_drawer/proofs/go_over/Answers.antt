@@ -1,7 +1,4 @@
--- `go_over`. The loop's invariant: the pass goes, has room for one text more, and both arrays keep their lengths. The measure is what is left of the drawer.
-use Prim.Native.Nat.{◌-◌}
-use native.Mathlib.Omega.{arith}
-use borrow.Author.Rules.{rules}
+use Rattle.std.proofs.Common.{rules, arith}
 use Rattle.replay_drawer.proofs.Passes.{turns_on}
 use Rattle.replay_drawer.proofs.go_over.Goals as goal
 

@@ -1,7 +1,5 @@
 -- `go_over`. The loop's invariant: the pass goes, has room for one text more, and both arrays keep their lengths. The measure is what is left of the drawer.
-use Prim.Native.Nat.{◌≤◌, ◌-◌}
-use mathlib.Core.Path.{◌≡◌}
-use lib.ListN.{length}
+use Rattle.std.proofs.Common.{◌≤◌, ◌-◌, ◌≡◌, length}
 use Rattle.replay_drawer.specs.Pass.{Goes}
 use Rattle.replay_drawer.proofs.go_over.Given as goal
 

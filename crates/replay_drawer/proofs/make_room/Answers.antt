@@ -1,5 +1,5 @@
--- `make_room`, by whether there is room and whether the writing succeeds.
-use borrow.Author.Rules.{rules}
+-- by whether there is room and whether the writing succeeds
+use Rattle.std.proofs.Common.{rules}
 use Rattle.replay_drawer.specs.Pass.{Makes}
 use Rattle.replay_drawer.proofs.make_room.Goals as goal
 

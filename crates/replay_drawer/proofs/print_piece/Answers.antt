@@ -1,5 +1,5 @@
--- `print_piece`: the piece lies inside the window, and its texts inside what waits.
-use native.Mathlib.Omega.{arith}
+-- the pass is a piece further on, and what it waits with is what make_room leaves
+use Rattle.std.proofs.Common.{arith}
 use Rattle.replay_drawer.specs.Pass.{Turns}
 use Rattle.replay_drawer.proofs.Passes.{further, makes_turns}
 use Rattle.replay_drawer.proofs.print_piece.Goals as goal
@@ -10,7 +10,5 @@ returns-then-held-end c = tt
 
 pub returns : goal.returns
 returns c =
-    let kept = c in
-    let start = kept in
-    let asked = start.requires.goes in
-    makes_turns _ (further _ _ asked.0 asked.2 asked.3 kept.hold-held.ensures start.requires.window_len.0) (omega (arith, asked.2)) c.make_room.ensures
+    let asked = c.requires.goes in
+    makes_turns _ (further _ _ asked.0 asked.2 asked.3 c.hold-held.ensures c.requires.window_len.0) (omega (arith, asked.2)) c.make_room.ensures

@@ -1,6 +1,6 @@
--- `size_of`, by its two tests.
+-- by the two tests
 use mir.Facts.{to_z-of_z}
-use Rattle.replay_drawer.proofs.Sizes.{below, above, within, counts}
+use Rattle.replay_drawer.proofs.Sizes.{below, above, within}
 use Rattle.replay_drawer.proofs.size_of.Goals as goal
 
 pub returns-then-end-lt0 : goal.returns-then-end-lt0
@@ -8,11 +8,6 @@ returns-then-end-lt0 c = below _ (rw (to_z-of_z c.ranges.end) at c.if-end-lt0.tr
 
 pub returns-then-end-gt16777216 : goal.returns-then-end-gt16777216
 returns-then-end-gt16777216 c = above _ (rw (to_z-of_z c.ranges.end) at c.if-end-gt16777216.true)
-
-pub overflow_cast-result : goal.overflow_cast-result
-overflow_cast-result c =
-    let same = to_z-of_z c.ranges.end in
-    rw same (counts c.args.end (rw same at c.if-end-lt0.false) (rw same at c.if-end-gt16777216.false))
 
 pub returns : goal.returns
 returns c =

@@ -1,7 +1,0 @@
--- `main`: a drawer that is not too long has at most 16,777,216 bytes.
-use mathlib.Core.Path.{sym, ◌∙◌}
-use Rattle.replay_drawer.proofs.Sizes.{sized_small}
-use Rattle.replay_drawer.proofs.main.Goals as goal
-
-pub print_all-requires : goal.print_all-requires
-print_all-requires c = sized_small _ _ (sym c.in-Of.is ∙ c.type_size.ensures)
