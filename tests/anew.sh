@@ -1,7 +1,8 @@
 #!/bin/sh
 # tools/replay, tools/drawer and tools/install build anew where a source is newer than what was built, and only there; where that fails they
 # answer nothing.
-# Tried in a copy whose rt copies what is built here, so that it takes no time. Run from the repository's root. Writes only under target/.
+# Tried in a copy whose rt copies what is built here, so that it takes no time. Run from the repository's root. The copy is
+# a temporary folder: rt reads every crates.txt below the root.
 set -eu
 cd "$(dirname "$0")/.."
 . tests/lib/machine.sh
@@ -10,8 +11,8 @@ need_library
 need_replay
 need_drawer
 here=$PWD
-copy=$here/target/tests/anew
-rm -rf "$copy"
+copy=$(mktemp -d)
+trap 'rm -rf "$copy"' EXIT
 mkdir -p "$copy/path" "$copy/tests" "$copy/crates/engine/src" "$copy/crates/ilvrotse" "$copy/crates/replay" "$copy/crates/replay_drawer"
 cp -R tools include recordings crates.txt "$copy"
 cp -R tests/lib "$copy/tests"

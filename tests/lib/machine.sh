@@ -24,7 +24,7 @@ drawer=target/bin/replay_drawer
 # the time at which the build began, so that a source changed meanwhile is newer still.
 need_built() {
     built=$1 crate=$2 made=crates/$2/out/$3 word=$4
-    [ ! -f "$built" ] || [ -n "$(find crates crates.txt -name out -prune -o -newer "$built" -print -quit)" ] || return 0
+    [ ! -f "$built" ] || [ -n "$(find crates.txt crates/*/* -name out -prune -o -newer "$built" -print -quit)" ] || return 0
     need rt
     echo "proving and building $built: some minutes where nothing is proved yet" >&2
     mkdir -p "$(dirname "$built")"
