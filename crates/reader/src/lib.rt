@@ -1,5 +1,5 @@
-// The reader: it keeps the recording it was lent and its place in it, and hands out one event after another. The borrow checker covers no
-// function over a struct that holds a slice, so each is proved by hand; the work is in `reading_at`, which takes the slice and is covered.
+// The reader: it keeps the recording it was lent and its place in it, and hands out one event after another. The work is in `reading_at`, which
+// takes the slice and the place.
 #![tactic(auto)]
 
 ghost use Rattle.std.specs.Prelude.{◌≡◌};
