@@ -5,7 +5,7 @@ use Rattle.drawer.proofs.drawer.Goals as goal
 
 pub returns-then-s-gt16777216 : goal.returns-then-s-gt16777216
 returns-then-s-gt16777216 c =
-    too_long_lem _ _ _ c.if-s-gt16777216.true
+    too_long_lem _ _ _ (omega (arith, c.if-s-gt16777216.true))
 
 pub cut_all-requires : goal.cut_all-requires
 cut_all-requires c =
