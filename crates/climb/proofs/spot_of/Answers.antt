@@ -1,5 +1,4 @@
 -- `spot_of`: every attempt has four steps, so quotient and remainders of the place in the climb are what the walk gives.
--- a place of 4 to 7 in its eight is in the second attempt
 use Prim.Native.Nat.{ℕ, ◌+◌, ◌-◌, ◌/◌, ◌%◌, ◌≤◌}
 use mathlib.Core.Path.{◌≡◌, refl, sym}
 use mathlib.Core.Bool.{Bool, true, false, cond}
@@ -14,6 +13,7 @@ use Rattle.spots.proofs.Shapes.{opened_two, even_at, even_last, taken_lawful, ta
 use Rattle.climb.specs.Climb.{spot_is, nowhere}
 use Rattle.climb.proofs.spot_of.Goals as goal
 
+-- a place of 4 to 7 in its eight is in the second attempt
 half : (n : ℕ) → n % 8 ≡ cond (leb 4 (n % 8)) 4 0 + n % 4
 half n = go (leb 4 (n % 8)) refl
   where

@@ -132,8 +132,7 @@ pub keep_step-listed-requires : goal.keep_step-listed-requires
 unfolding idle_record nowhere
 keep_step-listed-requires c =
     λ a.
-    let at = c in
-    let loop = at.loop-rows in
+    let loop = c.loop-rows in
     let pre = c.requires in
     let g = tried_step _ _ _ _ _ _ c.try_at.ensures _ _ c.in-Step.is in
     let runs = loop.invariant.0.runs in

@@ -28,8 +28,7 @@ pub returns-then-r : goal.returns-then-r
 unfolding process_of
 returns-then-r c =
     λ a.
-    let at = c in
-    let second = c.second_link.ensures at.args.p at.args.r.adds (at.requires a).known.low (at.requires a).last in
+    let second = c.second_link.ensures c.args.p c.args.r.adds (c.requires a).known.low (c.requires a).last in
     row_steps _ _ _ _ _ _ _ _ _ _ _ _ _ _ (rw second at c.step_row.ensures)
     ∙ ap (row_then _ _ _ _ _) c.place_addition-after.ensures ∙ sym (addition_step_lem _ _ _ _ _ _ _ c.if-r.true)
 

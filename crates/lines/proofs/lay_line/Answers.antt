@@ -8,10 +8,5 @@ use Rattle.lines.proofs.lay_line.Goals as goal
 pub returns : goal.returns
 unfolding text
 returns c =
-    let second = c in
-    let other = second in
-    let space = other in
-    let first = space in
-    let word = first in
-    let two = lays_then word.lay_word-next.ensures first.lay_field-next.ensures.lays in
-    let four = lays_then (lays_then two space.lay_byte-next.ensures) other.lay_word-next-2.ensures in record { lays = lays_as (line_parts _ _ _ _) (lays_then (lays_then four second.lay_field-next-2.ensures.lays) c.end_line.ensures.lays); upper_bound = search rules }
+    let two = lays_then c.lay_word-next.ensures c.lay_field-next.ensures.lays in
+    let four = lays_then (lays_then two c.lay_byte-next.ensures) c.lay_word-next-2.ensures in record { lays = lays_as (line_parts _ _ _ _) (lays_then (lays_then four c.lay_field-next-2.ensures.lays) c.end_line.ensures.lays); upper_bound = search rules }

@@ -9,11 +9,7 @@ use Rattle.lines.proofs.lay_numbers.Goals as goal
 pub returns : goal.returns
 unfolding numbers_text text
 returns c =
-    let seconds = c in
-    let rank = seconds in
-    let answer = rank in
-    let steps = answer in
-    let a = lays_as (ap field steps.number_at.ensures) steps.lay_field-next.ensures.lays in
-    let b = lays_as (ap field answer.number_at-2.ensures) answer.lay_field-next-2.ensures.lays in
-    let d = lays_as (ap field rank.number_at-3.ensures) rank.lay_field-next-3.ensures.lays in
-    let e = lays_as (ap field seconds.number_at-4.ensures) seconds.lay_field-next-4.ensures.lays in record { lays = lays_then (lays_then (lays_then (lays_then a b) d) e) c.end_line.ensures.lays; upper_bound = search rules }
+    let a = lays_as (ap field c.number_at.ensures) c.lay_field-next.ensures.lays in
+    let b = lays_as (ap field c.number_at-2.ensures) c.lay_field-next-2.ensures.lays in
+    let d = lays_as (ap field c.number_at-3.ensures) c.lay_field-next-3.ensures.lays in
+    let e = lays_as (ap field c.number_at-4.ensures) c.lay_field-next-4.ensures.lays in record { lays = lays_then (lays_then (lays_then (lays_then a b) d) e) c.end_line.ensures.lays; upper_bound = search rules }

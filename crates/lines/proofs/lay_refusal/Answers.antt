@@ -8,6 +8,4 @@ use Rattle.lines.proofs.lay_refusal.Goals as goal
 pub returns : goal.returns
 unfolding text
 returns c =
-    let place = c in
-    let number = place in
-    let word = number in record { lays = lays_as (refusal_parts _ _) (lays_then (lays_then (lays_then word.lay_word-next.ensures number.lay_field-next.ensures.lays) place.lay_field-next-2.ensures.lays) c.end_line.ensures.lays); upper_bound = search rules }
+    record { lays = lays_as (refusal_parts _ _) (lays_then (lays_then (lays_then c.lay_word-next.ensures c.lay_field-next.ensures.lays) c.lay_field-next-2.ensures.lays) c.end_line.ensures.lays); upper_bound = search rules }

@@ -11,6 +11,4 @@ use Rattle.lines.proofs.lay_report.Goals as goal
 pub returns : goal.returns
 unfolding report_text
 returns c =
-    let counter = c in
-    let length = counter in
-    let b : List ℕ = length.args.report.now in record { lays = lays_as (ap₂ (λ (n v : ℕ). first_text (n / row_length) v ++ row_texts b (n / row_length)) length.number_at.ensures counter.number_at-2.ensures) (lays_then c.lay_first-next.ensures.lays c.lay_rows.ensures.lays); upper_bound = search rules }
+    let b : List ℕ = c.args.report.now in record { lays = lays_as (ap₂ (λ (n v : ℕ). first_text (n / row_length) v ++ row_texts b (n / row_length)) c.number_at.ensures c.number_at-2.ensures) (lays_then c.lay_first-next.ensures.lays c.lay_rows.ensures.lays); upper_bound = search rules }

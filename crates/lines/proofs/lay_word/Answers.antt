@@ -11,9 +11,8 @@ loop-j-init c = (search rules, lays_none _ _)
 
 pub lay_byte-next-requires : goal.lay_byte-next-requires
 lay_byte-next-requires c =
-    let start = c in
     let loop = c.loop-j in
-    room_left 1 start.requires loop.invariant.1 (omega (arith, length-take-le loop.j start.args.word.now loop.invariant.0))
+    room_left 1 c.requires loop.invariant.1 (omega (arith, length-take-le loop.j c.args.word.now loop.invariant.0))
 
 pub loop-j-preserved : goal.loop-j-preserved
 loop-j-preserved c =

@@ -9,7 +9,4 @@ use Rattle.printing.proofs.print_in_drawer.Goals as goal
 
 pub returns : goal.returns
 returns c =
-    let second = c in
-    let shown = second in
-    let first = shown in
-    let heading = first in record { lays = lays_as (ap₂ (λ (a b : List ℕ). a ++ b) heading.lay_heading-n.ensures.lays.front (print_front shown.print-m.ensures)) (lays_then first.lay_text-next.ensures.lays second.lay_text.ensures.lays); upper_bound = search rules }
+    record { lays = lays_as (ap₂ (λ (a b : List ℕ). a ++ b) c.lay_heading-n.ensures.lays.front (print_front c.print-m.ensures)) (lays_then c.lay_text-next.ensures.lays c.lay_text.ensures.lays); upper_bound = search rules }

@@ -22,8 +22,7 @@ below c = omega (arith, c.if-p-ge64.false)
 
 pub overflow_add-result : goal.overflow_add-result
 overflow_add-result c =
-    let a = c in
-    omega (arith, weight a.args.p (below c), fits 64 a.args.p a.args.set (below c) a.ranges.set.fits (not_in c))
+    omega (arith, weight c.args.p (below c), fits 64 c.args.p c.args.set (below c) c.ranges.set.fits (not_in c))
 
 pub returns : goal.returns
 returns c =

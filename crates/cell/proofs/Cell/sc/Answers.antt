@@ -1,5 +1,4 @@
 -- `Cell::sc`: `has` says whether SC succeeds, and each branch is one of SC's two cases. The answer's numbers are compared by their values.
--- what the test says of `ok`, also where it asks besides for what always holds
 use mathlib.Core.Path.{◌≡◌, refl, sym, ap, ◌∙◌}
 use mathlib.Core.Bool.{Bool, true, false, ◌&&◌}
 use native.Mathlib.Omega.{arith}
@@ -9,6 +8,7 @@ use Rattle.cell.specs.Cell.{succeeds, state_of}
 use Rattle.cell.proofs.Laws.{state_is, sc_succeeds, sc_fails}
 use Rattle.cell.proofs.Cell.sc.Goals as goal
 
+-- what the test says of `ok`, also where it asks besides for what always holds
 both : (a b : Bool) → (a && b) ≡ true → a ≡ true
 both true b h = refl
 both false b h = h
