@@ -1,4 +1,5 @@
-use Rattle.std.proofs.Common.{◌≡◌, ℕ, ◌+◌, ◌-◌, ◌≤◌, List, ◌++◌, rules, arith, length, take, slice_range, sym, ap, ◌∙◌, subst, le_refl, drop_at, length-take-le}
+-- `read_full`: each read's bytes stand behind those before it.
+use Rattle.std.proofs.Common.{◌≡◌, ℕ, ◌+◌, ◌-◌, ◌≤◌, List, ◌++◌, Option, rules, arith, length, take, slice_range, sym, ap, ap₂, ◌∙◌, subst, le_refl, drop_at, length-take-le}
 use Rattle.std.proofs.lemmas.Slice.{take-put_mid_below}
 use Rattle.std.proofs.lemmas.List.{take-append-le}
 use Rattle.std.specs.Io.KnownBytes.{Consumes}
@@ -19,7 +20,15 @@ filled a k n xs ys within fits =
     ap (λ l. take a xs ++ l) (sym part) ∙ ap (λ l. l ++ slice_range all a (a + n)) (sym front)
     ∙ sym (take-add a ((a + n) - a) all) ∙ ap (λ m. take (a + m) all) same
 
+-- one read more, at the place b behind the first a bytes, and m bytes then
+gained : (a b m k n : ℕ) (xs ys : List ℕ) (R S T : Option (List ℕ)) → b ≡ a → m ≡ a + n → a ≤ length xs → n ≤ length ys → Consumes R S (take a xs)
+    → Consumes S T (take n ys) → Consumes R T (take m (put_mid b k xs ys))
+gained a b m k n xs ys R S T at more within fits before now =
+    subst (Consumes R T) (filled a k n xs ys within fits ∙ ap₂ (λ (i j : ℕ). take i (put_mid j k xs ys)) (sym more) (sym at)) (Consumes-trans _ _ _ _ _ before now)
+
 pub fill-preserved : goal.fill-preserved
-fill-preserved g c =
-    let joined = filled c.fill.done (length c.fill.buf - c.fill.done) c.in-Ok.n c.fill.buf c.read.new.buf c.fill.invariant.1 c.in-Ok.ensures.bound.0 in
-    (search rules, search rules, subst (Consumes _ _) joined (Consumes-trans _ _ _ _ _ c.fill.invariant.2 c.in-Ok.ensures.bytes.0))
+fill-preserved g c = (
+  search rules,
+  search rules,
+  gained c.fill.done _ _ _ c.in-Ok.n c.fill.buf c.read.new.buf _ _ _ (omega arith) (omega arith) c.fill.invariant.1 c.in-Ok.ensures.bound.0 c.fill.invariant.2 c.in-Ok.ensures.bytes.0,
+)
