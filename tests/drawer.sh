@@ -69,6 +69,12 @@ awk -v size="$(wc -c <recordings/shift.drawer)" '{ line[NR] = $0 } END { for (i 
   if (word[1] == "recording") { n++; print "recording " n " offset " word[4] + i * size } else print line[k] } }' recordings/shift.txt >"$build/texts"
 tools/drawer "$build/many" 2>/dev/null | cmp - "$build/texts" || wrong "many recordings are printed otherwise"
 
+# a file that the argument names: as from standard input, or not there
+"$build/program" recordings/shift.drawer </dev/null 2>"$build/said" | cmp -s - recordings/shift.txt || wrong "a file that is named is printed otherwise"
+[ ! -s "$build/said" ] || wrong "it says something of a file that is named"
+"$build/program" "$build/none" </dev/null >"$build/out" 2>"$build/said"
+grep -qxF 'drawer: the file cannot be read' "$build/said" && [ ! -s "$build/out" ] || wrong "it takes a file that is not there"
+
 # an end that is not reached: no file, a file that is emptied while it is printed, a text that cannot be written
 says() { grep -qxF "drawer: $1" "$build/said" || { wrong "it does not say: $1"; head -c 500 "$build/said"; }; }
 cat recordings/shift.drawer | "$build/program" >"$build/out" 2>"$build/said"
