@@ -1,6 +1,6 @@
 #!/usr/bin/env bash
 # docs/TRUST.md: each line count beside a file is that file's; the definitions listed add up to the sum it gives; every module of definitions
-# of the four crates that carry the rules is listed.
+# of the five crates that carry the rules is listed.
 set -u
 cd "$(dirname "$0")/.." || exit 2
 page=docs/TRUST.md
@@ -18,7 +18,7 @@ done < <(awk -F' *[|] *' '/^## / { part = 0 } /^## The definitions/ { part = 1 }
   $2 ~ /^`[^`]+`$/ && $3 ~ /^[0-9]+$/ { file = $2; gsub(/`/, "", file); print part "\t" file "\t" $3 }' "$page")
 [ "$seen" -ge 20 ] || wrong "only $seen files"
 grep -q "| $sum lines, listed below |" "$page" || wrong "the definitions listed have $sum lines together"
-for module in crates/{sets,cell,recording,meaning}/specs/*.antt; do
+for module in crates/{sets,cell,refusals,recording,meaning}/specs/*.antt; do
   [ "${module##*/}" = Lib.antt ] || grep -qF "\`$module\`" "$page" || wrong "$module is not listed"
 done
 for program in crates/replay/src/main.rt crates/replay_drawer/src/main.rt; do

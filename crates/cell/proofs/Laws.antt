@@ -1,14 +1,12 @@
 -- Laws of the LL/SC cell: how SC's two cases compute, and that a contract allows one outcome, since a u64 keeps one set.
 use Prim.Native.Nat.{ℕ, ◌^◌, ◌<◌}
-use mathlib.Core.Bool.{true, false}
+use mathlib.Core.Bool.{Bool, true, false}
 use mathlib.Core.Path.{◌≡◌, sym, ap, ◌∙◌}
 use Rattle.sets.specs.Processes.{nobody, is_in}
 use Rattle.sets.proofs.Laws.{same_set}
 use Rattle.cell.specs.Cell.{State, state_of, succeeds, store_conditional}
 use Rattle.cell.specs.Done.{Links, Stores}
 use Rattle.cell.specs.declared.Cell.{Cell}
-use Rattle.cell.specs.declared.Loaded.{Loaded}
-use Rattle.cell.specs.declared.Stored.{Stored}
 
 -- a cell of the program keeps the state that has its value and its links
 pub state_is : (v l : ℕ) (q : State) → v ≡ q.value → is_in l ≡ q.linked → state_of (record { value = v; links = l }) ≡ q
@@ -29,14 +27,10 @@ same_cell a b h l e =
     let links = same_set a.links b.links h l (ap (λ (q : State). q.linked) e) in
     λ i. record { value = (e i).value; links = links i }
 
-pub same_loaded : (p : ℕ) (c : Cell) (r s : Loaded) → r.cell.links < 2 ^ 64 → s.cell.links < 2 ^ 64 → Links p c r → Links p c s → r ≡ s
-same_loaded p c r s h l a b =
-    let value = a.value ∙ sym b.value in
-    let cell = same_cell r.cell s.cell h l (a.cell ∙ sym b.cell) in
-    λ i. record { value = value i; cell = cell i }
+pub same_loaded : (p : ℕ) (c : Cell) (v : ℕ) (a : Cell) (w : ℕ) (b : Cell) → a.links < 2 ^ 64 → b.links < 2 ^ 64 → Links p c v a → Links p c w b
+    → (v ≡ w) × (a ≡ b)
+same_loaded p c v a w b h l x y = (x.value ∙ sym y.value, same_cell a b h l (x.cell ∙ sym y.cell))
 
-pub same_stored : (u p : ℕ) (c : Cell) (r s : Stored) → r.cell.links < 2 ^ 64 → s.cell.links < 2 ^ 64 → Stores u p c r → Stores u p c s → r ≡ s
-same_stored u p c r s h l a b =
-    let ok = a.ok ∙ sym b.ok in
-    let cell = same_cell r.cell s.cell h l (a.cell ∙ sym b.cell) in
-    λ i. record { ok = ok i; cell = cell i }
+pub same_stored : (u p : ℕ) (c : Cell) (ok : Bool) (a : Cell) (done : Bool) (b : Cell) → a.links < 2 ^ 64 → b.links < 2 ^ 64 → Stores u p c ok a
+    → Stores u p c done b → (ok ≡ done) × (a ≡ b)
+same_stored u p c ok a done b h l x y = (x.ok ∙ sym y.ok, same_cell a b h l (x.cell ∙ sym y.cell))

@@ -11,20 +11,6 @@ pub struct Cell {
     pub links: u64,
 }
 
-// LL's answer and the cell afterwards.
-#[derive(Clone, Copy)]
-pub struct Loaded {
-    pub value: u32,
-    pub cell: Cell,
-}
-
-// SC's answer and the cell afterwards.
-#[derive(Clone, Copy)]
-pub struct Stored {
-    pub ok: bool,
-    pub cell: Cell,
-}
-
 impl Cell {
     pub fn new() -> Cell
         ensures { state_of result ≡ initial }
@@ -39,41 +25,24 @@ impl Cell {
         self.value
     }
 
-    pub fn ll(self, p: usize) -> Loaded
-        ensures { Links p self result }
+    pub fn ll(&mut self, p: usize) -> u32
+        ensures { Links p self.old result self.new }
     {
-        let value = self.value;
-        let before = self.links;
-        let after = sets::put(before, p);
-        Loaded {
-            value,
-            cell: Cell {
-                value,
-                links: after,
-            },
-        }
+        self.links = sets::put(self.links, p);
+        self.read()
     }
 
-    pub fn sc(self, p: usize, u: u32) -> Stored
-        ensures { Stores u p self result }
+    pub fn sc(&mut self, p: usize, u: u32) -> bool
+        ensures { Stores u p self.old result self.new }
     {
-        let value = self.value;
-        let links = self.links;
-        let ok = sets::has(links, p);
+        let ok = sets::has(self.links, p);
         if ok {
             let none = sets::empty();
-            Stored {
-                ok,
-                cell: Cell {
-                    value: u,
-                    links: none,
-                },
-            }
-        } else {
-            Stored {
-                ok,
-                cell: Cell { value, links },
-            }
+            *self = Cell {
+                value: u,
+                links: none,
+            };
         }
+        ok
     }
 }

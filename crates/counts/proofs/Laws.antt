@@ -14,6 +14,7 @@ use Rattle.spots.specs.Got.{groups_at}
 use Rattle.arrays.specs.Arrays.{as_rows, between}
 use Rattle.meaning.proofs.Updates.{upd_other}
 use Rattle.arrays.proofs.Laws.{same_list}
+use Rattle.counts.specs.declared.Counts.{Counts as Held}
 use Rattle.counts.specs.Counts.{Counts, levels, counts_of, wrote, read_over, stored_over, group_read, node_stored, attempted, counts_after}
 
 module _ (lo hi : ℕ) (g f : ℕ → ℕ) where
@@ -100,12 +101,12 @@ same_rows_list {xs} {ys} s e = ext_get_or [] xs ys s.rows (λ i _. same_list (ge
 
 -- Two outcomes with the counts that the contract of `take_in` says have the same arrays; their sizes are those of their types, and of the
 -- rows that were lent.
-pub counts_one : {counts₁ counts₂ read₁ read₂ : List (List ℕ)} {written₁ written₂ : List ℕ} (c : Counts)
-    → SameSizes counts₁ counts₂ → length written₁ ≡ length written₂ → SameSizes read₁ read₂
-    → counts_of counts₁ written₁ read₁ ≡ c → counts_of counts₂ written₂ read₂ ≡ c
-    → (counts₁ ≡ counts₂) × (written₁ ≡ written₂) × (read₁ ≡ read₂)
+pub counts_one : (c₁ c₂ : Held) (c : Counts)
+    → SameSizes c₁.in_nodes c₂.in_nodes → length c₁.written ≡ length c₂.written → SameSizes c₁.read.now c₂.read.now
+    → counts_of c₁ ≡ c → counts_of c₂ ≡ c
+    → (c₁.in_nodes ≡ c₂.in_nodes) × (c₁.written ≡ c₂.written) × (c₁.read.now ≡ c₂.read.now)
 unfolding counts_of levels
-counts_one {written₁ = written₁} {written₂ = written₂} c nodes leaves reads x y =
+counts_one c₁ c₂ c nodes leaves reads x y =
     let e = x ∙ sym y in
-    let at : (l : ℕ) → levels _ _ l ≡ levels _ _ l = λ l. ap (λ (d : Counts). d.in_node l) e in
-    (same_rows_list nodes (fun_ext (λ l. at (suc l))), same_list written₁ written₂ leaves (at 0), same_rows_list reads (ap (λ (d : Counts). d.read) e))
+    let at : (l : ℕ) → levels c₁.written c₁.in_nodes l ≡ levels c₂.written c₂.in_nodes l = λ l. ap (λ (d : Counts). d.in_node l) e in
+    (same_rows_list nodes (fun_ext (λ l. at (suc l))), same_list c₁.written c₂.written leaves (at 0), same_rows_list reads (ap (λ (d : Counts). d.read) e))

@@ -8,6 +8,7 @@ use Rattle.meaning.specs.Steps.{upd}
 use Rattle.arrays.specs.Arrays.{as_fun, as_rows, between}
 use Rattle.arrays.proofs.Laws.{fun_set}
 use Rattle.meaning.proofs.Updates.{upd_same, upd_other, upd_is}
+use Rattle.counts.specs.declared.Counts.{Counts as Held}
 use Rattle.counts.specs.Counts.{levels, counts_of, wrote, read_over, stored_over}
 
 module _ (written : List ℕ) (counts : List (List ℕ)) where
@@ -39,24 +40,26 @@ module _ (written : List ℕ) (counts : List (List ℕ)) where
       other zero n = refl
       other (suc j) n = ap (λ (f : ℕ → ℕ → ℕ). f j) e ∙ upd_other (as_rows counts) l row j (λ d. n (ap suc d))
 
-module _ (counts : List (List ℕ)) (written : List ℕ) (read : List (List ℕ)) where
-  pub leaf_stored : (p : ℕ) → p < length written → counts_of counts (set written p (as_fun written p + 1)) read ≡ wrote p (counts_of counts written read)
+module _ (c c' : Held) where
+  pub leaf_stored : (p : ℕ) → p < length c.written → c'.in_nodes ≡ c.in_nodes → c'.written ≡ set c.written p (as_fun c.written p + 1) → c'.read.now ≡ c.read.now
+      → counts_of c' ≡ wrote p (counts_of c)
   unfolding counts_of wrote levels
-  leaf_stored p h = let e = levels_leaf written counts p (as_fun written p + 1) h in λ i. record { in_node = e i; read = as_rows read }
+  leaf_stored p h n w r = let e = levels_leaf c.written c.in_nodes p (as_fun c.written p + 1) h in rw (n, w, r) (λ i. record { in_node = e i; read = as_rows c.read.now })
 
-  pub read_stored : (p l lo hi : ℕ) (read' : List (List ℕ)) (child : ℕ → ℕ)
-      → child ≡ levels written counts l
-      → as_rows read' ≡ upd (as_rows read) p (between lo hi child (as_rows read p))
-      → counts_of counts written read' ≡ read_over p l lo hi (counts_of counts written read)
+  pub read_stored : (p l lo hi : ℕ) (child : ℕ → ℕ)
+      → child ≡ levels c.written c.in_nodes l → c'.in_nodes ≡ c.in_nodes → c'.written ≡ c.written
+      → as_rows c'.read.now ≡ upd (as_rows c.read.now) p (between lo hi child (as_rows c.read.now p))
+      → counts_of c' ≡ read_over p l lo hi (counts_of c)
   unfolding counts_of read_over
-  read_stored p l lo hi read' child is e =
+  read_stored p l lo hi child is n w e =
       let r = rw is at e in
-      λ i. record { in_node = levels written counts; read = r i }
+      rw (n, w) (λ i. record { in_node = levels c.written c.in_nodes; read = r i })
 
-  pub node_stored_lem : (p l lo hi : ℕ) (counts' : List (List ℕ))
-      → as_rows counts' ≡ upd (as_rows counts) l (between lo hi (λ q. max (as_rows counts l q) (as_rows read p q)) (as_rows counts l))
-      → counts_of counts' written read ≡ stored_over p (suc l) lo hi (counts_of counts written read)
+  pub node_stored_lem : (p l lo hi : ℕ)
+      → as_rows c'.in_nodes ≡ upd (as_rows c.in_nodes) l (between lo hi (λ q. max (as_rows c.in_nodes l q) (as_rows c.read.now p q)) (as_rows c.in_nodes l))
+      → c'.written ≡ c.written → c'.read.now ≡ c.read.now
+      → counts_of c' ≡ stored_over p (suc l) lo hi (counts_of c)
   unfolding counts_of stored_over levels
-  node_stored_lem p l lo hi counts' e =
-      let n = levels_node written counts counts' l _ e in
-      λ i. record { in_node = n i; read = as_rows read }
+  node_stored_lem p l lo hi e w r =
+      let n = levels_node c.written c.in_nodes c'.in_nodes l _ e in
+      rw (w, r) (λ i. record { in_node = n i; read = as_rows c.read.now })

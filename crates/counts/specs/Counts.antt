@@ -1,6 +1,6 @@
 -- The counts that the code keeps, and what a step makes of them, by its step number and its spot. A leaf's additions are counted by its
 -- component, which in these shapes is the number of the process that writes it.
-use Rattle.std.specs.Prelude.{ℕ, zero, suc, ◌+◌, ◌-◌, ◌*◌, ◌/◌, ◌^◌, max, ◌≤◌, ◌<◌, Bool, cond, List, length, get_or, leb, eqb}
+use Rattle.std.specs.Prelude.{ℕ, zero, suc, ◌+◌, ◌-◌, ◌*◌, ◌/◌, ◌^◌, max, ◌≤◌, ◌<◌, ◌≡◌, Bool, cond, List, length, get_or, leb, eqb}
 use Rattle.recording.specs.declared.Form.{Form as Told}
 use Rattle.meaning.specs.Shape.{Group, the_one, Form, highest_shape}
 use Rattle.meaning.specs.Layout.{highest_tree}
@@ -9,6 +9,7 @@ use Rattle.spots.specs.Spot.{Spot}
 use Rattle.spots.specs.Got.{groups_at}
 use Rattle.arrays.specs.Arrays.{as_fun, as_rows, between}
 use Rattle.climb.specs.declared.Spot.{Spot as At}
+use Rattle.counts.specs.declared.Counts.{Counts as Held}
 
 -- By level and component: how many of the component's additions are in the node that many levels above its leaf, 0 for the leaf itself. By
 -- reader and component: how many were in the child that the reader has read towards that component's leaf.
@@ -21,8 +22,13 @@ unfoldable pub levels : List ℕ → List (List ℕ) → ℕ → ℕ → ℕ
 levels written counts zero = as_fun written
 levels written counts (suc l) = as_rows counts l
 
-unfoldable pub counts_of : List (List ℕ) → List ℕ → List (List ℕ) → Counts
-counts_of counts written read = record { in_node = levels written counts; read = as_rows read }
+unfoldable pub counts_of : Held → Counts
+counts_of c = record { in_node = levels c.written c.in_nodes; read = as_rows c.read.now }
+
+-- counts with the same lent rows of what was read, as many as before
+pub record SameRead (c c' : Held) : Type 0 where
+  pub read : c'.read.ghost_name ≡ c.read.ghost_name
+  pub of_read : length c'.read.now ≡ length c.read.now
 
 -- the first of the components whose leaves lie under the node l levels above p's
 unfoldable pub first_under : ℕ → ℕ → ℕ
@@ -64,9 +70,9 @@ unfoldable pub counts_after : Form → ℕ → ℕ → Spot → Bool → Counts 
 counts_after F p s σ stored c = cond (eqb s 2) (wrote p c) (cond (leb 3 s) (attempted (groups_at F p σ) p σ stored c) c)
 
 -- a process with a row of its own, a shape that is taken, a level of the highest tree at most, and room for one more leaf write
-pub record CanCount (f : Told) (p : ℕ) (σ : At) (written : List ℕ) (read : List (List ℕ)) : Type 0 where
+pub record CanCount (f : Told) (p : ℕ) (σ : At) (c : Held) : Type 0 where
   pub process : p < 64
-  pub row : p < length read
+  pub row : p < length c.read.now
   pub shape : f.shape ≤ highest_shape
   pub level : σ.level < highest_tree
-  pub room : as_fun written p < 65535
+  pub room : as_fun c.written p < 65535

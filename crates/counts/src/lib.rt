@@ -8,67 +8,104 @@ ghost use Rattle.meaning.specs.Steps.{upd};
 ghost use Rattle.spots.specs.Got.{groups_at};
 ghost use Rattle.arrays.specs.Arrays.{as_fun, as_rows, between};
 ghost use Rattle.climb.specs.Climb.{spot_is};
-ghost use Rattle.counts.specs.Counts.{counts_of, first_under, read_over, stored_over, attempted, counts_after, CanCount};
+ghost use Rattle.counts.specs.Counts.{counts_of, SameRead, first_under, read_over, stored_over, attempted, counts_after, CanCount};
 
 use climb::Spot;
 use recording::Form;
 
-fn larger(a: u16, b: u16) -> u16
-    ensures { result ≡ max a b }
-{
-    if a < b { b } else { a }
+// The counts in the six levels of nodes above the leaves, in the leaves, and in what each reader has read, which is lent.
+#[derive(Drop)]
+pub struct Counts<'a> {
+    pub in_nodes: [[u16; 64]; 6],
+    pub written: [u16; 64],
+    pub read: &'a mut [[u16; 64]],
 }
 
-// The row of counts at a level above the leaves.
-pub fn row_of(counts: &[[u16; 64]; 6], level: usize) -> [u16; 64]
-    requires { level < 6 }
-    ensures { result ≡ get_or counts.now level [] }
-{
-    counts[level]
-}
+impl Counts<'_> {
+    // The row of counts at a level above the leaves.
+    pub fn row_of(&self, level: usize) -> [u16; 64]
+        requires { level < 6 }
+        ensures { result ≡ get_or self.now.in_nodes level [] }
+    {
+        self.in_nodes[level]
+    }
 
-// It does nothing: through a reference a proof does not know an array's length, and learns it by this contract.
-fn sixty_four_counts(a: [u16; 64]) -> bool
-    ensures { length a ≡ 64 }
-{
-    true
-}
+    // The read of children at level l by process p, for the components lo to hi - 1.
+    fn read_child(&mut self, p: usize, l: usize, lo: usize, hi: usize)
+        requires p_bound { (p < 64) × (p < length self.old.read.now) }
+        requires l_bound { l ≤ 6 }
+        requires lo_bound { lo ≤ hi }
+        requires hi_bound { hi ≤ 64 }
+        ensures counts { counts_of self.new ≡ read_over p l lo hi (counts_of self.old) }
+        ensures same { SameRead self.old self.new }
+    {
+        let Counts {
+            in_nodes,
+            written,
+            read,
+        } = self;
+        if l == 0 {
+            read_row(read, p, lo, hi, written);
+        } else {
+            let nodes: &[[u16; 64]; 6] = in_nodes;
+            read_row(read, p, lo, hi, &nodes[l - 1]);
+        }
+    }
 
-// The counts of from in row p of read, for the components lo to hi - 1.
-fn copy_row(read: &mut [[u16; 64]], p: usize, from: &[u16; 64], lo: usize, hi: usize)
-    requires p_bound { (p < 64) × (p < length read.old) }
-    requires hi_bound { hi ≤ 64 }
-    ensures { as_rows read.new ≡ upd (as_rows read.old) p (between lo hi (as_fun from.now) (as_rows read.old p)) }
-{
-    sixty_four_counts(read[p]);
-    for q in lo..hi {
-        read[p][q] = from[q];
+    // The counts after the access at a spot of process p's climb: its LL takes nothing in, the groups' reads follow, the SC is the last.
+    fn attempt(&mut self, f: Form, p: usize, spot: Spot, stored: bool)
+        requires p_bound { (p < 64) × (p < length self.old.read.now) }
+        requires shape_le_highest_shape { (f.shape ≤ highest_shape) × (spot.level < 6) }
+        ensures counts { counts_of self.new ≡ attempted (groups_at (formed f) p (spot_is spot)) p (spot_is spot) stored (counts_of self.old) }
+        ensures same { SameRead self.old self.new }
+    {
+        let i = spot.position;
+        if i == 0 {
+            return;
+        }
+        let l = spot.level as usize;
+        let lo = first_under(l + 1, p);
+        if i <= climb::groups(f) {
+            let g = climb::group_at(f, i - 1);
+            let from = lo + leaves_under(g.from, l);
+            let to = lo + leaves_under(g.from + g.count, l);
+            self.read_child(p, l, from, to);
+            return;
+        }
+        if stored {
+            let hi = lo + leaves_under(2, l);
+            let read = &mut *self.read;
+            self.in_nodes = store(self.in_nodes, read, p, l, lo, hi);
+        }
+    }
+
+    // The counts after the step s of an addition of process p, at that spot of its climb.
+    pub fn take_in(&mut self, f: Form, p: usize, s: u32, spot: Spot, stored: bool)
+        requires { CanCount f p spot self.old }
+        ensures counts { counts_of self.new ≡ counts_after (formed f) p s (spot_is spot) stored (counts_of self.old) }
+        ensures same { SameRead self.old self.new }
+    {
+        match s {
+            0 | 1 => {}
+            2 => self.written[p] += 1,
+            _ => self.attempt(f, p, spot, stored),
+        }
     }
 }
 
-// The read of children at level l by process p, for the components lo to hi - 1.
-fn read_child(
-    counts: &[[u16; 64]; 6],
-    written: &[u16; 64],
-    read: &mut [[u16; 64]],
-    p: usize,
-    l: usize,
-    lo: usize,
-    hi: usize,
-)
-    requires p_bound { (p < 64) × (p < length read.old) }
-    requires l_bound { l ≤ 6 }
+// What process p has read is, for the components lo to hi - 1, this row.
+fn read_row(read: &mut [[u16; 64]], p: usize, lo: usize, hi: usize, row: &[u16; 64])
+    requires p_bound { p < length read.old }
+    requires lo_bound { lo ≤ hi }
     requires hi_bound { hi ≤ 64 }
-    ensures { counts_of counts.now written.now read.new ≡ read_over p l lo hi (counts_of counts.now written.now read.old) }
+    ensures read { as_rows read.new ≡ upd (as_rows read.old) p (between lo hi (as_fun row.now) (as_rows read.old p)) }
+    ensures same { length read.new ≡ length read.old }
 {
-    if l == 0 {
-        copy_row(read, p, written, lo, hi);
-    } else {
-        copy_row(read, p, &counts[l - 1], lo, hi);
-    }
+    read[p][lo..hi].copy_from_slice(&row[lo..hi]);
 }
 
-// The successful SC of process p at a node at level l + 1, for the components lo to hi - 1: the counts by value, in and out.
+// The successful SC of process p at a node at level l + 1, for the components lo to hi - 1: the six arrays by value, in and out,
+// a form that the scope names.
 fn store(
     counts: [[u16; 64]; 6],
     read: &[[u16; 64]],
@@ -79,13 +116,15 @@ fn store(
 ) -> [[u16; 64]; 6]
     requires p_bound { (p < 64) × (p < length read.now) }
     requires l_bound { l < 6 }
+    requires lo_bound { lo ≤ hi }
     requires hi_bound { hi ≤ 64 }
-    ensures { (w : List ℕ) → counts_of result w read.now ≡ stored_over p (suc l) lo hi (counts_of counts w read.now) }
+    ensures { as_rows result ≡ upd (as_rows counts) l (between lo hi (λ q. max (as_rows counts l q) (as_rows read.now p q)) (as_rows counts l)) }
 {
     let mut after = counts;
-    sixty_four_counts(after[l]);
-    for q in lo..hi {
-        after[l][q] = larger(after[l][q], read[p][q]);
+    let row = &read[p][lo..hi];
+    // With a `zip` of the two, a proof knows nothing of what is written.
+    for (i, x) in after[l][lo..hi].iter_mut().enumerate() {
+        *x = (*x).max(row[i]);
     }
     after
 }
@@ -106,62 +145,4 @@ fn first_under(l: usize, p: usize) -> usize
     ensures { (result ≡ first_under l p) × (result + 2 ^ l ≤ 64) }
 {
     (p >> l) << l
-}
-
-// The counts after the access at a spot of process p's climb: its LL takes nothing in, the groups' reads follow, the SC is the last.
-fn attempt(
-    counts: &mut [[u16; 64]; 6],
-    written: &[u16; 64],
-    read: &mut [[u16; 64]],
-    f: Form,
-    p: usize,
-    spot: Spot,
-    stored: bool,
-)
-    requires p_bound { (p < 64) × (p < length read.old) }
-    requires shape_le_highest_shape { (f.shape ≤ highest_shape) × (spot.level < 6) }
-    ensures { counts_of counts.new written.now read.new ≡ attempted (groups_at (formed f) p (spot_is spot)) p (spot_is spot) stored (counts_of counts.old written.now read.old) }
-{
-    let i = spot.position;
-    if i == 0 {
-        return;
-    }
-    let l = spot.level as usize;
-    let lo = first_under(l + 1, p);
-    if i <= climb::groups(f) {
-        let g = climb::group_at(f, i - 1);
-        let from = lo + leaves_under(g.from, l);
-        let to = lo + leaves_under(g.from + g.count, l);
-        read_child(counts, written, read, p, l, from, to);
-        return;
-    }
-    if stored {
-        let hi = lo + leaves_under(2, l);
-        *counts = store(*counts, read, p, l, lo, hi);
-    }
-}
-
-// The counts after the step s of an addition of process p, at that spot of its climb.
-pub fn take_in(
-    counts: &mut [[u16; 64]; 6],
-    written: &mut [u16; 64],
-    read: &mut [[u16; 64]],
-    f: Form,
-    p: usize,
-    s: u32,
-    spot: Spot,
-    stored: bool,
-)
-    requires { CanCount f p spot written.old read.old }
-    ensures { counts_of counts.new written.new read.new ≡ counts_after (formed f) p s (spot_is spot) stored (counts_of counts.old written.old read.old) }
-{
-    if s == 2 {
-        sixty_four_counts(*written);
-        written[p] = written[p] + 1;
-        return;
-    }
-    if s < 3 {
-        return;
-    }
-    attempt(counts, written, read, f, p, spot, stored);
 }

@@ -1,31 +1,33 @@
 -- A piece alone: how many bytes its report has at most; and by how its run ended its report's bytes, its mark, and what is laid of it.
-use Prim.Native.Nat.{ℕ, ◌+◌, ◌*◌, ◌-◌, ◌/◌, min, ◌≤◌, ◌<◌}
+use Prim.Native.Nat.{ℕ, ◌+◌, ◌*◌, ◌-◌, ◌/◌, min, ◌≤◌}
+use native.Mathlib.Nat.{add-zero}
 use native.Mathlib.Omega.{arith}
 use mathlib.Core.Path.{◌≡◌, refl, sym, ap, ◌∙◌, subst}
 use mathlib.Core.Bool.{Bool, true, false, cond, ◌||◌}
 use mathlib.Core.List.{List, [], ◌∷◌, ◌++◌}
 use lib.ListN.{length, take, drop, set, length-set}
 use lib.Dec.{ltb}
-use borrow.Author.Tests.{eq-eqb, ne_eqb, ltb-false, le-ltb}
+use borrow.Author.Tests.{ltb-false, le-ltb}
+use Rattle.std.specs.Prelude.{Result, Ok, Err}
+use Rattle.refusals.specs.declared.Refused.{Refused}
 use Rattle.recording.specs.Numbers.{four_bytes}
 use Rattle.recording.specs.Record.{Answer}
 use Rattle.recording.proofs.Laws.{length-four_bytes}
 use Rattle.meaning.specs.Shape.{Form}
 use Rattle.meaning.specs.Layout.{form_of}
 use Rattle.meaning.specs.Run.{State, Outcome, refused, accepted, outcome}
-use Rattle.meaning.specs.Report.{report_bytes, needed, passes, check_with, check_answer}
+use Rattle.meaning.specs.Report.{report_bytes, needed, check_answer}
 use Rattle.meaning.specs.Drawer.{report_with, report_of, mark_of}
 use Rattle.rows.specs.Rows.{laid_at, laid_report}
 use Rattle.rows.proofs.Laws.{length-report_bytes}
 use Rattle.laying.specs.Lays.{Lays}
 use Rattle.laying.proofs.Laid.{lays_none, lays_byte, lays_at, lays_lent, lays_then, lays_as}
 use Rattle.engine.specs.Ends.{Ends, refuses, accepts}
-use Rattle.engine.specs.declared.Ended.{Ended}
+use Rattle.engine.specs.declared.Accepted.{Accepted}
 use Rattle.history.proofs.Accepted.{accepted_run, accepted_few, accepted_bytes}
-use Rattle.entries.proofs.Answers.{check_ends, laid_bytes, few_of_ends}
-use Rattle.entries.proofs.Laws.{refusal_number}
+use Rattle.entries.proofs.Answers.{check_ends, laid_bytes, within_of_ends}
 use Rattle.drawer.specs.Cuts.{most_of, bytes_by}
-use Rattle.drawer.specs.Lending.{LaysReport}
+use Rattle.drawer.specs.Lending.{mark_by, LaysReport}
 
 -- ---- the bytes of a report
 
@@ -63,77 +65,50 @@ most_small n = most_cases (λ (x : ℕ). x ≤ 7 * n) n (omega arith) (λ b. ome
 pub report_few : (n : ℕ) (s : List ℕ) → n ≡ length (report_of s) → n ≤ 20489
 report_few n s e = most_cases (λ (x : ℕ). length (report_of s) ≤ x → n ≤ 20489) (length s) (λ a. omega arith) (λ b a. omega arith) (report_most s)
 
--- ---- a refusal's number is one byte
-
-pub refusal_byte : (s : List ℕ) → (check_answer s).number < 256
-unfolding check_answer check_with passes
-refusal_byte s = go (outcome s) refl
-  where
-    go : (o : Outcome) → outcome s ≡ o → (check_with o).number < 256
-    go (refused a) e = omega (arith, refusal_number s a e)
-    go (accepted st) e = omega arith
-
 -- ---- by how the run ended
 
-pub bytes_accepted : (r : Ended) → r.number ≡ 0 → bytes_by r ≡ 9 + 20 * r.operations
-unfolding bytes_by
-bytes_accepted r z = rw (eq-eqb r.number 0 z)
-
-pub bytes_refused : (r : Ended) → (r.number ≡ 0 → ⊥) → bytes_by r ≡ 0
-unfolding bytes_by
-bytes_refused r n = rw (ne_eqb r.number 0 n)
-
-module _ {asked : Bool} {F : Form} {size : ℕ} {rows : ℕ → ℕ} {r : Ended} where
-  report_with_ends : (G : Form) {o : Outcome} → Ends asked F size rows r o → length (report_with G o) ≡ bytes_by r
+module _ {asked : Bool} {F : Form} {size : ℕ} {rows : ℕ → ℕ} where
+  report_with_ends : (G : Form) {r : Result Accepted Refused} {o : Outcome} → Ends asked F size rows r o → length (report_with G o) ≡ bytes_by r
   unfolding report_with
-  report_with_ends G (refuses w c) = sym (bytes_refused r (λ z. omega (arith, w.its)))
-  report_with_ends G (accepts {st} a b c d e l f) = omega (arith, report_length G st, bytes_accepted r a)
+  report_with_ends G (refuses w) = refl
+  report_with_ends G (accepts {st} c d e l f) = omega (arith, report_length G st)
 
-  module _ (s : List ℕ) (ends : Ends asked F size rows r (outcome s)) where
-    pub report_of_ends : length (report_of s) ≡ bytes_by r
+  module _ (s : List ℕ) where
+    pub report_of_ends : {r : Result Accepted Refused} → Ends asked F size rows r (outcome s) → length (report_of s) ≡ bytes_by r
     unfolding report_of
-    report_of_ends = report_with_ends (form_of s) ends
+    report_of_ends ends = report_with_ends (form_of s) ends
 
-    pub accepted_of_ends : r.number ≡ 0 → length (report_of s) ≡ 9 + 20 * r.operations
-    accepted_of_ends z = report_of_ends ∙ bytes_accepted r z
+    pub accepted_of_ends : (a : Accepted) → Ends asked F size rows (Ok a) (outcome s) → length (report_of s) ≡ 9 + 20 * a.operations
+    accepted_of_ends a ends = report_of_ends ends
 
-    check_of_ends : record { number = r.number; place = r.place } ≡ check_answer s
-    unfolding check_answer
-    check_of_ends = check_ends asked F size rows r ends
+    pub mark_of_ends : {r : Result Accepted Refused} → Ends asked F size rows r (outcome s) → mark_by r ≡ mark_of s
+    unfolding mark_of check_answer
+    mark_of_ends {r} ends = ap (λ (a : Answer). a.number ∷ four_bytes a.place) (check_ends asked F size rows r ends)
 
-    pub mark_of_ends : r.number ∷ four_bytes r.place ≡ mark_of s
-    unfolding mark_of
-    mark_of_ends = ap (λ (a : Answer). a.number ∷ four_bytes a.place) check_of_ends
-
-    pub byte_of_ends : r.number < 256
-    byte_of_ends = subst (λ (a : Answer). a.number < 256) (sym check_of_ends) (refusal_byte s)
-
-    lays_piece : (before : List ℕ) (at : ℕ) (after : List ℕ) → Lays before at (report_of s) after (at + bytes_by r) → LaysReport s before at after r
-    lays_piece before at after l = record { laid = l; mark = mark_of_ends; few = few_of_ends ends; byte = byte_of_ends }
-
-  refused_with_ends : (G : Form) {o : Outcome} → Ends asked F size rows r o → (r.number ≡ 0 → ⊥) → report_with G o ≡ []
+  refused_with_ends : (G : Form) (r : Refused) {o : Outcome} → Ends asked F size rows (Err r) o → report_with G o ≡ []
   unfolding report_with
-  refused_with_ends G (refuses w c) n = refl
-  refused_with_ends G (accepts a b c d e l f) n = absurd (n a)
+  refused_with_ends G r (refuses w) = refl
 
   -- a refused piece leaves the buffer as it was
-  pub piece_refused : (s before : List ℕ) (at : ℕ) → Ends asked F size rows r (outcome s) → (r.number ≡ 0 → ⊥) → LaysReport s before at before r
+  pub piece_refused : (s before : List ℕ) (at : ℕ) (r : Refused) → Ends asked F size rows (Err r) (outcome s) → LaysReport s before at before (Err r)
   unfolding report_of
-  piece_refused s before at ends n =
-      let none : report_of s ≡ [] = refused_with_ends (form_of s) ends n in
-      let stays : at ≡ at + bytes_by r = omega (arith, report_of_ends s ends, ap length none) in
-      lays_piece s ends before at before (lays_as (sym none) (subst (λ (k : ℕ). Lays before at [] before k) stays (lays_none before at)))
+  piece_refused s before at r ends =
+      let none : report_of s ≡ [] = refused_with_ends (form_of s) r ends in
+      record { laid = lays_as (sym none) (subst (λ (k : ℕ). Lays before at [] before k) (sym (add-zero at)) (lays_none before at)); mark = mark_of_ends s ends; within = within_of_ends ends }
 
 -- an accepted piece's report, laid at the front of what is lent from a place to the end of the buffer
-pub piece_laid : {size : ℕ} {rows : ℕ → ℕ} {r : Ended} (s before : List ℕ) (at : ℕ) (part : List ℕ) → Ends true (form_of s) size rows r (outcome s) → r.number ≡ 0
-    → at + length (report_of s) ≤ length before → part ≡ laid_report r.operations r.counter rows (take (length before - at) (drop at before))
-    → LaysReport s before at (take at before ++ (part ++ drop (length before - at) (drop at before))) r
+pub piece_laid : {size : ℕ} {rows : ℕ → ℕ} (a : Accepted) (s before : List ℕ) (at : ℕ) (part : List ℕ) → Ends true (form_of s) size rows (Ok a) (outcome s)
+    → at + length (report_of s) ≤ length before → part ≡ laid_report a.operations a.counter rows (take (length before - at) (drop at before))
+    → LaysReport s before at (take at before ++ (part ++ drop (length before - at) (drop at before))) (Ok a)
 unfolding report_of
-piece_laid {size} {rows} {r} s before at part ends z room laid =
+piece_laid {size} {rows} a s before at part ends room laid =
     let lent : List ℕ = take (length before - at) (drop at before) in
-    lays_piece s ends before at _
-    (lays_lent before at (bytes_by r) (length before - at) (report_of s) part (report_of_ends s ends) (omega (arith, report_of_ends s ends)) (omega arith)
-    (laid ∙ laid_bytes s lent (form_of s) size rows r refl refl ends z ∙ ap (λ (n : ℕ). report_of s ++ drop n lent) (sym (bytes_accepted r z))))
+    let long : length (report_of s) ≡ 9 + 20 * a.operations = accepted_of_ends s a ends in
+    record {
+      laid = lays_lent before at (9 + 20 * a.operations) (length before - at) (report_of s) part long (omega (arith, long)) (omega arith) (laid ∙ laid_bytes s lent (form_of s) size rows refl a refl ends);
+      mark = mark_of_ends s ends;
+      within = tt;
+    }
 
 -- ---- a mark
 

@@ -17,8 +17,9 @@ use Rattle.meaning.specs.Report.{report_bytes, needed, passes, answer_with, buff
 use Rattle.meaning.specs.Drawer.{Pieces, into, fails, pieces_of, report_with, report_of, mark_of, joined, longest_drawer, answer_within, answer_cut, drawer_answer, over, given, drawer_reports, drawer_marks}
 use Rattle.history.proofs.Accepted.{none_refused, accepted_run}
 use Rattle.entries.specs.Promises.{answer_of, Reports}
-use Rattle.entries.specs.declared.Reply.{Reply}
-use Rattle.entries.proofs.Laws.{same_reply, refusal_positive}
+use Rattle.std.specs.Prelude.{Result}
+use Rattle.refusals.specs.declared.Refused.{Refused}
+use Rattle.entries.proofs.Laws.{same_result, refusal_positive}
 use Rattle.drawer.specs.Draws.{Draws}
 use Rattle.drawer.specs.AsAlone.{bytes_from, AsAlone, EachAlone}
 use Rattle.drawer.proofs.Reached.{joined_append}
@@ -29,8 +30,8 @@ use Rattle.drawer.proofs.Cutting.{cutting, one_piece}
 
 -- ---- one outcome
 
-pub draws_one : (s out marks out₁ marks₁ out₂ marks₂ : List ℕ) (a b : Reply) → Draws s out marks out₁ marks₁ a → Draws s out marks out₂ marks₂ b → (a ≡ b) × (out₁ ≡ out₂) × (marks₁ ≡ marks₂)
-draws_one s out marks out₁ marks₁ out₂ marks₂ a b x y = (same_reply a b (x.answer ∙ sym y.answer), x.reports ∙ sym y.reports, x.marked ∙ sym y.marked)
+pub draws_one : (s out marks out₁ marks₁ out₂ marks₂ : List ℕ) (a b : Result (Unit {0}) Refused) → Draws s out marks out₁ marks₁ (answer_of a) → Draws s out marks out₂ marks₂ (answer_of b) → (a ≡ b) × (out₁ ≡ out₂) × (marks₁ ≡ marks₂)
+draws_one s out marks out₁ marks₁ out₂ marks₂ a b x y = (same_result a b (x.answer ∙ sym y.answer), x.reports ∙ sym y.reports, x.marked ∙ sym y.marked)
 
 -- ---- the whole accepted
 
@@ -67,8 +68,8 @@ module _ (s out marks : List ℕ) where
 -- ---- a piece alone
 
 -- what report lays for an accepted piece
-report_front : (p before after : List ℕ) (r : Reply) → Reports p before after r → r.number ≡ 0 → bytes_from 0 (length (report_of p)) after ≡ report_of p
-unfolding bytes_from report_of report_answer report_buffer answer_of answer_with buffer_with report_with passes
+report_front : (p before after : List ℕ) (r : Answer) → Reports p before after r → r.number ≡ 0 → bytes_from 0 (length (report_of p)) after ≡ report_of p
+unfolding bytes_from report_of report_answer report_buffer answer_with buffer_with report_with passes
 report_front p before after r w z = go (outcome p) refl (ap (λ (a : Answer). a.number) w.answer) w.buffer
   where
     laid : (st : State) (b : Bool) → r.number ≡ (cond b passes (record { number = 11; place = needed st })).number → after ≡ cond b (report_bytes (form_of p) st ++ drop (needed st) before) before
@@ -81,16 +82,16 @@ report_front p before after r w z = go (outcome p) refl (ap (λ (a : Answer). a.
     go (refused a) e n b = absurd (omega (arith, refusal_positive p a e))
     go (accepted st) e n b = laid st (leb (needed st) (length before)) n b
 
-nothing_refused : (p : List ℕ) (r : Reply) → answer_of r ≡ check_answer p → (r.number ≡ 0 → ⊥) → length (report_of p) ≡ 0
-unfolding report_of report_with check_answer check_with answer_of passes
+nothing_refused : (p : List ℕ) (r : Answer) → r ≡ check_answer p → (r.number ≡ 0 → ⊥) → length (report_of p) ≡ 0
+unfolding report_of report_with check_answer check_with passes
 nothing_refused p r e n = go (outcome p) (ap (λ (a : Answer). a.number) e)
   where
     go : (o : Outcome) → r.number ≡ (check_with o).number → length (report_with (form_of p) o) ≡ 0
     go (refused a) d = refl
     go (accepted st) d = absurd (n d)
 
-mark_is : (p : List ℕ) (r : Reply) → answer_of r ≡ check_answer p → mark_of p ≡ r.number ∷ four_bytes r.place
-unfolding mark_of answer_of
+mark_is : (p : List ℕ) (r : Answer) → r ≡ check_answer p → mark_of p ≡ r.number ∷ four_bytes r.place
+unfolding mark_of
 mark_is p r e = ap (λ (a : Answer). a.number ∷ four_bytes a.place) (sym e)
 
 mark_here : (ss : List (List ℕ)) (i : ℕ) (rest : List ℕ) → i < length ss → bytes_from (5 * i) 5 (joined mark_of ss ++ rest) ≡ mark_of (get_or ss i [])
@@ -100,8 +101,8 @@ mark_here ss i rest b =
     ∙ ap (λ (n : ℕ). bytes_from (length (joined mark_of (take i ss))) n (joined mark_of ss ++ rest)) (sym (length-mark (get_or ss i []))) ∙ part mark_of ss i rest b
 
 -- "each exactly as if run alone"
-pub each_alone : (s out marks out' marks' : List ℕ) (r : Reply) → Draws s out marks out' marks' r → r.number ≡ 0 → EachAlone s out' marks'
-unfolding drawer_reports drawer_marks over answer_of
+pub each_alone : (s out marks out' marks' : List ℕ) (r : Answer) → Draws s out marks out' marks' r → r.number ≡ 0 → EachAlone s out' marks'
+unfolding drawer_reports drawer_marks over
 each_alone s out marks out' marks' r w z =
     record { pieces = c.0; cutting = cutting s c.0 c.1; alone = alone }
   where
@@ -167,5 +168,5 @@ module _ (s : List ℕ) (st : State) (e : outcome s ≡ accepted st) where
         go false = refl
 
     -- one true recording: the answer and out are those of report
-    pub one_recording : (out' marks' out'' : List ℕ) (r q : Reply) → Draws s out marks out' marks' r → Reports s out out'' q → (r ≡ q) × (out' ≡ out'')
-    one_recording out' marks' out'' r q x y = (same_reply r q (x.answer ∙ one_answer ∙ sym y.answer), x.reports ∙ one_buffer ∙ sym y.buffer)
+    pub one_recording : (out' marks' out'' : List ℕ) (r q : Result (Unit {0}) Refused) → Draws s out marks out' marks' (answer_of r) → Reports s out out'' (answer_of q) → (r ≡ q) × (out' ≡ out'')
+    one_recording out' marks' out'' r q x y = (same_result r q (x.answer ∙ one_answer ∙ sym y.answer), x.reports ∙ one_buffer ∙ sym y.buffer)

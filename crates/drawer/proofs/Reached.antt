@@ -1,5 +1,5 @@
 -- How far a drawer is cut: the pieces before a place, such that the cut from there on makes up the whole cut.
-use Prim.Native.Nat.{ℕ, zero, suc, ◌+◌, ◌-◌, ◌≤◌, ◌<◌}
+use Prim.Native.Nat.{ℕ, zero, suc, ◌+◌, ◌≤◌, ◌<◌}
 use native.Mathlib.Omega.{arith}
 use mathlib.Core.Path.{◌≡◌, refl, sym, ap, ◌∙◌}
 use mathlib.Core.List.{List, [], ◌∷◌, ◌++◌, append_assoc, append-nil}
@@ -108,10 +108,6 @@ same_parts ss tt e d = ap parts (sym e ∙ d)
 -- the bytes of a piece
 pub piece_length : (s : List ℕ) (at n : ℕ) → at + n ≤ length s → length (take n (drop at s)) ≡ n
 piece_length s at n b = length-take-le n (drop at s) (omega (arith, length-drop at s))
-
--- as the code lends it
-pub piece_lent : (s : List ℕ) (at n : ℕ) → take (at + n - at) (drop at s) ≡ take n (drop at s)
-piece_lent s at n = let same : at + n - at ≡ n = omega arith in rw same
 
 -- ---- what the pieces give, one after another
 

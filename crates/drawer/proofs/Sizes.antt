@@ -1,56 +1,52 @@
--- The size of a piece, and the bytes of its report at most, by the tests that the code makes.
-use Prim.Native.Nat.{ℕ, ◌+◌, ◌-◌, ◌*◌, ◌/◌, ◌^◌, min, ◌≤◌, ◌<◌}
-use native.Mathlib.Omega.{arith}
-use mathlib.Core.Path.{◌≡◌, refl, subst⁻¹}
-use mathlib.Core.Bool.{Bool, true, false, cond}
-use mathlib.Core.List.{List}
-use lib.ListN.{length, get_or}
-use lib.Dec.{ltb}
+-- The size of a piece, by the tests that the code makes.
+use Rattle.std.proofs.Common.{ℕ, ◌+◌, ◌-◌, ◌≤◌, ◌<◌, ◌≡◌, ◌⊎◌, inl, inr, refl, Bool, true, false, cond, List, [], ◌∷◌, length, ltb, Option, None, Some, MatchOption, arith}
+use denote.Bor.{Bor}
+use Rattle.std.specs.List.{IsSplitAt}
+use mathlib.Core.Path.{subst⁻¹}
 use borrow.Author.Tests.{lt-ltb, le-ltb, lt-leb, ltb-false}
 use Rattle.recording.specs.Numbers.{number_at}
-use Rattle.meaning.specs.Drawer.{size_at, found_at}
-use Rattle.drawer.specs.Cuts.{SizeAt, cuts, ends, most_of}
+use Rattle.meaning.specs.Drawer.{whole, broken, size_at, found_at}
+use Rattle.drawer.specs.Cuts.{SizeAt, cuts, ends, IsFirst}
 
--- ---- the size of a piece
+pub size_told : (s : List ℕ) (left follows : ℕ) (r : Option ℕ) → follows ≡ number_at s 1 → r ≡ cond (ltb left (5 + follows)) None (Some (5 + follows)) → r ≡ cond (ltb left (size_at s 0)) None (Some (size_at s 0))
+unfolding size_at
+size_told s left follows r e d = rw e at d
 
-pub few_left : (s : List ℕ) (at : ℕ) → at < length s → length s - at < 5 → SizeAt s at 0
+pub size_found : {s : List ℕ} {at n : ℕ} → SizeAt s at (Some n) → (found_at s at ≡ whole n) × (5 ≤ n) × (at + n ≤ length s)
+size_found (cuts e five b) = (e, five, b)
+
+pub size_broken : {s : List ℕ} {at : ℕ} → SizeAt s at None → found_at s at ≡ broken
+size_broken (ends e) = e
+
+module _ (s : List ℕ) (five : 5 ≤ length s) where
+  whole_or_broken : (t : Bool) → ltb (length s) (size_at s 0) ≡ t → found_at s 0 ≡ cond t broken (whole (size_at s 0))
+  unfolding found_at
+  whole_or_broken t e =
+      let same : length s - 0 ≡ length s = omega arith in
+      rw (same, lt-leb (length s) 0 (omega arith), le-ltb (length s) 5 five, e)
+
+  least : 5 ≤ size_at s 0
+  unfolding size_at
+  least = omega arith
+
+  -- the size of the piece at the front of what is left, by the test of what is left
+  pub size_first : (r : Option ℕ) → r ≡ cond (ltb (length s) (size_at s 0)) None (Some (size_at s 0)) → SizeAt s 0 r
+  size_first r e = subst⁻¹ (SizeAt s 0) e (go (ltb (length s) (size_at s 0)) refl)
+    where
+      go : (t : Bool) → ltb (length s) (size_at s 0) ≡ t → SizeAt s 0 (cond t None (Some (size_at s 0)))
+      go true d = ends (whole_or_broken true d)
+      go false d = cuts (whole_or_broken false d) least (omega (arith, ltb-false (length s) (size_at s 0) d))
+
+  pub first_of : (n : ℕ) (r : Option (Bor (List ℕ) × Bor (List ℕ))) → Some n ≡ cond (ltb (length s) (size_at s 0)) None (Some (size_at s 0))
+      → MatchOption r (length s < n) (λ p. IsSplitAt s n p.0.now p.1.now) → MatchOption r (s ≡ [] ⊎ SizeAt s 0 None) (λ p. IsFirst s p.0.now p.1.now)
+  first_of n None e w = absurd (omega (arith, (size_found (size_first (Some n) e)).2))
+  first_of n (Some (piece, after)) e w =
+      let same : length piece.now ≡ n = w.3 in
+      record { size = subst⁻¹ (λ k. SizeAt s 0 (Some k)) same (size_first (Some n) e); parted = subst⁻¹ (λ k. IsSplitAt s k piece.now after.now) same w }
+
+pub few_left : (s : List ℕ) → length s < 5 → (s ≡ [] ⊎ SizeAt s 0 None)
 unfolding found_at
-few_left s at b few = ends (rw (lt-leb (length s) at b, lt-ltb (length s - at) 5 few))
-
-pub l_at : (s : List ℕ) (at : ℕ) → get_or s (at + 1) 0 * 2 ^ 24 + get_or s (at + 2) 0 * 2 ^ 16 + get_or s (at + 3) 0 * 2 ^ 8 + get_or s (at + 4) 0 ≡ number_at s (at + 1)
-unfolding number_at
-l_at s at =
-    let two : at + 1 + 1 ≡ at + 2 = omega arith in
-    let three : at + 1 + 2 ≡ at + 3 = omega arith in
-    let four : at + 1 + 3 ≡ at + 4 = omega arith in
-    rw (two, three, four)
-
-pub size_found : (s : List ℕ) (at follows n : ℕ) → at < length s → 5 ≤ length s - at → follows ≡ number_at s (at + 1) → n ≡ cond (ltb (length s - at) (5 + follows)) 0 (5 + follows) → SizeAt s at n
-unfolding found_at size_at
-size_found s at follows n b five e d = subst⁻¹ (SizeAt s at) d (go (ltb (length s - at) (5 + follows)) refl)
-  where
-    go : (t : Bool) → ltb (length s - at) (5 + follows) ≡ t → SizeAt s at (cond t 0 (5 + follows))
-    go true w = ends (rw (lt-leb (length s) at b, le-ltb (length s - at) 5 five, ← e, w))
-    go false w =
-        cuts {n = 5 + follows} (rw (lt-leb (length s) at b, le-ltb (length s - at) 5 five, ← e, w)) (omega arith)
-        (omega (arith, ltb-false (length s - at) (5 + follows) w))
-
-pub passes_end : (left size : ℕ) → left < size → 0 ≡ cond (ltb left size) 0 size
-passes_end left size b = rw (lt-ltb left size b)
-
-pub stays_within : (left size : ℕ) → size ≤ left → size ≡ cond (ltb left size) 0 size
-stays_within left size b = rw (le-ltb left size b)
-
--- ---- the bytes of a report at most
-
-pub most_short : (n : ℕ) → n < 6 → 0 ≡ most_of n
-unfolding most_of
-most_short n b = rw (lt-ltb n 6 b)
-
-pub most_long : (n : ℕ) → 6 ≤ n → 65536 < n → 0 ≡ most_of n
-unfolding most_of
-most_long n a b = rw (le-ltb n 6 a, lt-ltb 65536 n b)
-
-pub most_between : (n r : ℕ) → 6 ≤ n → n ≤ 65536 → r ≡ 9 + 20 * min 1024 ((n - 6) / 3) → r ≡ most_of n
-unfolding most_of
-most_between n r a b e = rw (le-ltb n 6 a, le-ltb 65536 n b) e
+few_left [] b = inl refl
+few_left (x ∷ l) b =
+    let some : length (x ∷ l) - 0 ≡ length (x ∷ l) = omega arith in
+    inr (ends (rw (some, lt-leb (length (x ∷ l)) 0 (omega arith), lt-ltb (length (x ∷ l)) 5 b)))

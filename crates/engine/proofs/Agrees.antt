@@ -24,6 +24,7 @@ use Rattle.machine.specs.Arrays.{memory_of, process_of, idle_record, started_rec
 use Rattle.machine.specs.Nexts.{Nexts, effect_of, CanStep}
 use Rattle.spots.specs.Spot.{last_step}
 use Rattle.spots.proofs.Shapes.{of_write}
+use Rattle.machine.specs.declared.Memory.{Memory as Nodes}
 use Rattle.machine.specs.declared.Process.{Process as Record}
 use Rattle.ledger.specs.Kept.{Kept, kept_step, kept_start}
 use Rattle.machine.proofs.Known.{addition_past_1}
@@ -42,10 +43,10 @@ use Rattle.engine.specs.Tries.{busy_then}
 abbrev pub procs_of : List Record → ℕ → Process
 procs_of ps p = process_of (get_or ps p idle_record)
 
-pub record Agrees (form : Told) (at : ℕ) (st : State) (vals links : List ℕ) (ps : List Record) (set m : ℕ) : Type 0 where
+pub record Agrees (form : Told) (at : ℕ) (st : State) (mem : Nodes) (ps : List Record) (set m : ℕ) : Type 0 where
   pub known : Known form
   pub good : Good (formed form) st
-  pub memory : memory_of vals links ≡ st.memory
+  pub memory : memory_of mem ≡ st.memory
   pub procs : procs_of ps ≡ st.process
   pub long : length ps ≡ 64
   pub busy_set : is_in set ≡ busy st.process
@@ -54,7 +55,7 @@ pub record Agrees (form : Told) (at : ℕ) (st : State) (vals links : List ℕ) 
   pub place : 3 * length st.history + 6 ≤ at
   pub started : 3 * m + 6 ≤ at
 
-pub record Ledger (F : Form) (st : State) (k : Kept) (greatest : ℕ → ℕ) : Type 0 where
+pub record LedgerAgrees (F : Form) (st : State) (k : Kept) (greatest : ℕ → ℕ) : Type 0 where
   -- the contentions that the rows have
   pub shown : ℕ → ℕ
   pub keeps : Keeps F st shown k
@@ -84,7 +85,7 @@ busy_step f p r b = go (eqb r.step 0) refl
 
 -- ---- a step
 
-module _ (form : Told) (at : ℕ) (st : State) (vals links : List ℕ) (ps : List Record) (set₀ m : ℕ) (A : Agrees form at st vals links ps set₀ m)
+module _ (form : Told) (at : ℕ) (st : State) (mem : Nodes) (ps : List Record) (set₀ m : ℕ) (A : Agrees form at st mem ps set₀ m)
     (p : ℕ) (inside : p < 2 ^ form.height) (acts : is_in set₀ p ≡ true) where
   its : process_of (get_or ps p idle_record) ≡ st.process p
   its = ap (λ (f : ℕ → Process). f p) A.procs
@@ -104,7 +105,7 @@ module _ (form : Told) (at : ℕ) (st : State) (vals links : List ℕ) (ps : Lis
       }
 
   -- the code's step is the definition's
-  module _ (vals' links' : List ℕ) (r : Record) (n : Nexts form p (get_or ps p idle_record) vals links vals' links' r) where
+  module _ (mem' : Nodes) (r : Record) (n : Nexts form p (get_or ps p idle_record) mem mem' r) where
     rec : process_of r ≡ record_after (formed form) p st
     unfolding effect_of
     rec = n.process ∙ ap₂ (λ (x : Process) (w : Memory). next_record (formed form) p x (effect (formed form) p x w (access_of (formed form) p x))) its A.memory
@@ -115,11 +116,11 @@ module _ (form : Told) (at : ℕ) (st : State) (vals links : List ℕ) (ps : Lis
     still_write two =
         let own = get_or ps p idle_record in
         n.stored
-        ∙ ap (λ (a : Access). (effect (formed form) p (process_of own) (memory_of vals links) a).stored)
+        ∙ ap (λ (a : Access). (effect (formed form) p (process_of own) (memory_of mem) a).stored)
         (of_write (formed form) p (process_of own) A.good.lawful (addition_past_1 form p own can_step (omega (arith, two))) two)
 
     pub agrees_step : (next : ℕ) (ps' : List Record) (set' : ℕ) → at + 3 ≤ next → ps' ≡ set ps p r → is_in set' ≡ busy_then (eqb r.step 0) p (is_in set₀)
-        → Agrees form next (take_step (formed form) p st) vals' links' ps' set' m
+        → Agrees form next (take_step (formed form) p st) mem' ps' set' m
     unfolding take_step effect_of process_of
     agrees_step next ps' set' further ep es =
         record {
@@ -137,8 +138,8 @@ module _ (form : Told) (at : ℕ) (st : State) (vals links : List ℕ) (ps : Lis
         busy_now_lem : busy st.process p ≡ true
         busy_now_lem = ap (λ (f : ℕ → Bool). f p) (sym A.busy_set) ∙ acts
 
-    pub ledger_step : (k k' : Kept) (greatest : ℕ → ℕ) → Ledger (formed form) st k greatest
-        → k' ≡ kept_step (formed form) p (process_of (get_or ps p idle_record)) (process_of r) r.stored (greatest p) k → Ledger (formed form) (take_step (formed form) p st) k' greatest
+    pub ledger_step : (k k' : Kept) (greatest : ℕ → ℕ) → LedgerAgrees (formed form) st k greatest
+        → k' ≡ kept_step (formed form) p (process_of (get_or ps p idle_record)) (process_of r) r.stored (greatest p) k → LedgerAgrees (formed form) (take_step (formed form) p st) k' greatest
     unfolding effect_of
     ledger_step k k' greatest L ek =
         record {
@@ -161,7 +162,7 @@ module _ (form : Told) (at : ℕ) (st : State) (vals links : List ℕ) (ps : Lis
 
 -- ---- a start
 
-module _ (form : Told) (at : ℕ) (st : State) (vals links : List ℕ) (ps : List Record) (set₀ m : ℕ) (A : Agrees form at st vals links ps set₀ m)
+module _ (form : Told) (at : ℕ) (st : State) (mem : Nodes) (ps : List Record) (set₀ m : ℕ) (A : Agrees form at st mem ps set₀ m)
     (p : ℕ) (inside : p < 2 ^ form.height) (free : is_in set₀ p ≡ false) (room : m < most_operations) (adds : Bool) (delta : ℕ) where
   idle_now : (st.process p).step ≡ 0
   idle_now = is_idle st.process p (ap (λ (f : ℕ → Bool). f p) (sym A.busy_set) ∙ free)
@@ -189,7 +190,7 @@ module _ (form : Told) (at : ℕ) (st : State) (vals links : List ℕ) (ps : Lis
         starts_busy : not (eqb (started st.operations adds delta).step 0) ≡ true
         starts_busy = refl
 
-    pub agrees_start : (next : ℕ) → at + 3 ≤ next → Agrees form next begun vals links ps' set' (suc m)
+    pub agrees_start : (next : ℕ) → at + 3 ≤ next → Agrees form next begun mem ps' set' (suc m)
     unfolding start
     agrees_start next further =
         record {
@@ -208,8 +209,8 @@ module _ (form : Told) (at : ℕ) (st : State) (vals links : List ℕ) (ps : Lis
         procs_now =
             ap procs_of ep ∙ procs_set ps p (started_record m adds delta) (omega (arith, A.long, low)) ∙ ap₂ (λ (f : ℕ → Process) (x : Process). upd f p x) A.procs new_record
 
-    pub ledger_start : (count : ℕ) (k k' : Kept) (greatest greatest' : ℕ → ℕ) → Ledger (formed form) st k greatest → count ≡ count_below 64 (is_in set') → k' ≡ kept_start m p (kind_of adds) k
-        → greatest' ≡ raised p count greatest → Ledger (formed form) begun k' greatest'
+    pub ledger_start : (count : ℕ) (k k' : Kept) (greatest greatest' : ℕ → ℕ) → LedgerAgrees (formed form) st k greatest → count ≡ count_below 64 (is_in set') → k' ≡ kept_start m p (kind_of adds) k
+        → greatest' ≡ raised p count greatest → LedgerAgrees (formed form) begun k' greatest'
     unfolding start busy_count processes
     ledger_start count k k' greatest greatest' L ec ek eg =
         record {

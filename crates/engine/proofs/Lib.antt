@@ -3,7 +3,6 @@ pub mod Room
 pub mod Tries
 pub mod Runs
 pub mod Whole
-pub mod Fresh
 pub mod Loop
-pub mod Accepted
+pub mod AcceptedRows
 pub mod Laws

@@ -6,12 +6,12 @@ use mathlib.Core.Bool.{Bool, true, false}
 use mathlib.Core.List.{List}
 use lib.ListN.{length, get_or, set}
 use lib.Dec.{eqb}
-use Rattle.recording.specs.Record.{cut_at}
+use Rattle.std.specs.Prelude.{Ok, Err}
+use Rattle.refusals.specs.declared.Refused.{Refused}
+use Rattle.recording.specs.Record.{cut_at, Cut, whole_record, no_more, broken_record}
 use Rattle.recording.specs.declared.Event.{Event}
 use Rattle.recording.specs.declared.Event.TheVariants.{Step, Read, Add}
 use Rattle.recording.specs.declared.Form.{Form as Told}
-use Rattle.recording.specs.declared.Cut.{Cut}
-use Rattle.recording.specs.declared.Cut.TheVariants.{Found, Broken, End}
 use lib.Pow.{pow_mono}
 use Rattle.sets.specs.Processes.{with, count_below, is_in}
 use Rattle.arrays.specs.Arrays.{as_fun}
@@ -24,8 +24,8 @@ use Rattle.meaning.specs.TakenIn.{rank}
 use Rattle.meaning.specs.Run.{State, initial, kind_of, start, most_operations, take_step, take_event, record_refusal, process_of as process_in, is_start, Outcome, refused, accepted, unless, run, refusal_by}
 use Rattle.machine.specs.Arrays.{memory_of, process_of, idle_record, started_record}
 use Rattle.machine.specs.Nexts.{Nexts, CanStep}
+use Rattle.machine.specs.declared.Memory.{Memory as Nodes}
 use Rattle.machine.specs.declared.Process.{Process as Record}
-use Rattle.listing.specs.declared.Listed.{Listed}
 use Rattle.history.proofs.Passing.{Taken, refusal_passes}
 use Rattle.meaning.proofs.EventKinds.{form_kinds, follows_found}
 use Rattle.rows.specs.Rows.{row_numbers, closed}
@@ -35,36 +35,35 @@ use Rattle.history.proofs.Turns.{false_true}
 use Rattle.ledger.specs.Kept.{Kept, kept_step, kept_start}
 use Rattle.contention.specs.Greatest.{raised}
 use Rattle.contention.proofs.Greatest.{greatest_closed, shown_small}
-use Rattle.keeping.specs.Keeping.{kept_of}
 use Rattle.engine.specs.Ends.{adds_of, delta_of, Ends, refuses, accepts, Refuses}
-use Rattle.engine.specs.declared.Ended.{Ended}
+use Rattle.engine.specs.declared.Accepted.{Accepted}
 use Rattle.engine.specs.Tries.{Stands, Stops, breaks, refuses as refusesEvent, Stopped, Goes, Begins, busy_then}
-use Rattle.engine.proofs.Agrees.{Agrees, Ledger, can_step as can-step-here, agrees_step, agrees_start, ledger_step, ledger_start}
+use Rattle.engine.proofs.Agrees.{Agrees, LedgerAgrees, can_step as can-step-here, agrees_step, agrees_start, ledger_step, ledger_start}
 
-pub record Runs (s : List ℕ) (form : Told) (at : ℕ) (vals links : List ℕ) (ps : List Record) (set₀ m : ℕ) : Type 0 where
+pub record Runs (s : List ℕ) (form : Told) (at : ℕ) (mem : Nodes) (ps : List Record) (set₀ m : ℕ) : Type 0 where
   pub st : State
   pub most : ℕ
-  pub agrees : Agrees form at st vals links ps set₀ m
+  pub agrees : Agrees form at st mem ps set₀ m
   pub enough : length s ≤ most + at
   pub within : at ≤ length s
   pub rest : run (formed form) st (records_from (form_of s) most s at) ≡ run (formed form) (initial (formed form)) (records_of s)
 
-pub record RunsKept (s : List ℕ) (form : Told) (at : ℕ) (vals links : List ℕ) (ps : List Record) (set₀ m : ℕ) (asked : Bool) (k : Kept) (greatest : ℕ → ℕ) : Type 0 where
-  pub runs : Runs s form at vals links ps set₀ m
-  pub ledger : asked ≡ true → Ledger (formed form) runs.st k greatest
+pub record RunsKept (s : List ℕ) (form : Told) (at : ℕ) (mem : Nodes) (ps : List Record) (set₀ m : ℕ) (asked : Bool) (k : Kept) (greatest : ℕ → ℕ) : Type 0 where
+  pub runs : Runs s form at mem ps set₀ m
+  pub ledger : asked ≡ true → LedgerAgrees (formed form) runs.st k greatest
 
 -- ---- the records from a place, by what is cut there
 
-pub records_end : (F : Form) (most : ℕ) (s : List ℕ) (at : ℕ) → cut_at s at ≡ End → records_from F most s at ≡ end
+pub records_end : (F : Form) (most : ℕ) (s : List ℕ) (at : ℕ) → cut_at s at ≡ no_more → records_from F most s at ≡ end
 unfolding records_from follow
 records_end F zero s at e = refl
 records_end F (suc most) s at e = rw e
 
-records_broken : (F : Form) (most : ℕ) (s : List ℕ) (at place : ℕ) → cut_at s at ≡ Broken place → records_from F (suc most) s at ≡ broken place
+records_broken : (F : Form) (most : ℕ) (s : List ℕ) (at place : ℕ) → cut_at s at ≡ broken_record place → records_from F (suc most) s at ≡ broken place
 unfolding records_from follow
 records_broken F most s at place e = rw e
 
-records_found : (s : List ℕ) (most at : ℕ) (e : Event) (next : ℕ) → cut_at s at ≡ Found e next → records_from (form_of s) (suc most) s at ≡ event at e (records_from (form_of s) most s next)
+records_found : (s : List ℕ) (most at : ℕ) (e : Event) (next : ℕ) → cut_at s at ≡ whole_record e next → records_from (form_of s) (suc most) s at ≡ event at e (records_from (form_of s) most s next)
 unfolding records_from
 records_found s most at e next c = ap (λ (x : Cut). follow (form_of s) at x (records_from (form_of s) most s)) c ∙ follows_found (form_of s) (form_kinds s) at e next (records_from (form_of s) most s)
 
@@ -84,8 +83,8 @@ take_start F st (Add p d) n = refl
 
 -- ---- the ways out
 
-module _ (s : List ℕ) (form : Told) (at : ℕ) (vals links : List ℕ) (ps : List Record) (set₀ m : ℕ) (R : Runs s form at vals links ps set₀ m) where
-  pub runs_end : cut_at s at ≡ End → run (formed form) (initial (formed form)) (records_of s) ≡ accepted R.st
+module _ (s : List ℕ) (form : Told) (at : ℕ) (mem : Nodes) (ps : List Record) (set₀ m : ℕ) (R : Runs s form at mem ps set₀ m) where
+  pub runs_end : cut_at s at ≡ no_more → run (formed form) (initial (formed form)) (records_of s) ≡ accepted R.st
   unfolding run
   runs_end e = sym R.rest ∙ ap (run (formed form) R.st) (records_end (form_of s) R.most s at e)
 
@@ -157,10 +156,10 @@ module _ (s : List ℕ) (form : Told) (at : ℕ) (vals links : List ℕ) (ps : L
     room_left : starts ≡ true → m < most_operations
     room_left d = (taken.starts (g.kind ∙ d)).1
 
-    goes_on : (vals' links' : List ℕ) (ps' : List Record) (set' m' : ℕ) (st' : State) → take_event (formed form) R.st g.event ≡ st' → Agrees form next st' vals' links' ps' set' m'
-        → Runs s form next vals' links' ps' set' m'
+    goes_on : (mem' : Nodes) (ps' : List Record) (set' m' : ℕ) (st' : State) → take_event (formed form) R.st g.event ≡ st' → Agrees form next st' mem' ps' set' m'
+        → Runs s form next mem' ps' set' m'
     unfolding unless
-    goes_on vals' links' ps' set' m' st' same A =
+    goes_on mem' ps' set' m' st' same A =
         let f = found_rest g.stands in
         record {
           st = st';
@@ -173,52 +172,59 @@ module _ (s : List ℕ) (form : Told) (at : ℕ) (vals links : List ℕ) (ps : L
 
   module _ (p next : ℕ) (g : Goes s form set₀ m at p next false) where
     pub can_step : CanStep form p (get_or ps p idle_record)
-    can_step = can-step-here form at R.st vals links ps set₀ m R.agrees p (inside p next false g) (acting p next false g refl)
+    can_step = can-step-here form at R.st mem ps set₀ m R.agrees p (inside p next false g) (acting p next false g refl)
 
-    module _ (vals' links' : List ℕ) (r : Record) (n : Nexts form p (get_or ps p idle_record) vals links vals' links' r) (ps' : List Record) (set' : ℕ)
+    module _ (mem' : Nodes) (r : Record) (n : Nexts form p (get_or ps p idle_record) mem mem' r) (ps' : List Record) (set' : ℕ)
         (ep : ps' ≡ set ps p r) (es : is_in set' ≡ busy_then (eqb r.step 0) p (is_in set₀)) where
-      pub runs_step : Runs s form next vals' links' ps' set' m
+      pub runs_step : Runs s form next mem' ps' set' m
       runs_step =
-          goes_on p next false g vals' links' ps' set' m (take_step (formed form) p R.st) (take_step_lem (formed form) R.st g.event g.kind ∙ ap (λ (q : ℕ). take_step (formed form) q R.st) (sym g.whose))
-          (agrees_step form at R.st vals links ps set₀ m R.agrees p (inside p next false g) (acting p next false g refl) vals' links' r n next ps' set' g.stands.further ep es)
+          goes_on p next false g mem' ps' set' m (take_step (formed form) p R.st) (take_step_lem (formed form) R.st g.event g.kind ∙ ap (λ (q : ℕ). take_step (formed form) q R.st) (sym g.whose))
+          (agrees_step form at R.st mem ps set₀ m R.agrees p (inside p next false g) (acting p next false g refl) mem' r n next ps' set' g.stands.further ep es)
 
-      pub runs_kept_step : (asked : Bool) (k k' : Kept) (greatest : ℕ → ℕ) → (asked ≡ true → Ledger (formed form) R.st k greatest)
-          → (asked ≡ true → k' ≡ kept_step (formed form) p (process_of (get_or ps p idle_record)) (process_of r) r.stored (greatest p) k) → RunsKept s form next vals' links' ps' set' m asked k' greatest
+      pub runs_kept_step : (asked : Bool) (k k' : Kept) (greatest greatest' : ℕ → ℕ) → (asked ≡ true → LedgerAgrees (formed form) R.st k greatest)
+          → (asked ≡ true → (k' ≡ kept_step (formed form) p (process_of (get_or ps p idle_record)) (process_of r) r.stored (greatest p) k) × (greatest' ≡ greatest))
+          → RunsKept s form next mem' ps' set' m asked k' greatest'
       unfolding runs_step goes_on
-      runs_kept_step asked k k' greatest L ek =
-          record { runs = runs_step; ledger = λ a. ledger_step form at R.st vals links ps set₀ m R.agrees p (inside p next false g) (acting p next false g refl) vals' links' r n k k' greatest (L a) (ek a) }
+      runs_kept_step asked k k' greatest greatest' L ek =
+          record {
+            runs = runs_step;
+            ledger =
+                λ a.
+                subst (LedgerAgrees (formed form) (take_step (formed form) p R.st) k') (sym (ek a).1)
+                (ledger_step form at R.st mem ps set₀ m R.agrees p (inside p next false g) (acting p next false g refl) mem' r n k k' greatest (L a) (ek a).0);
+          }
 
   module _ (p : ℕ) (adds : Bool) (delta next : ℕ) (b : Begins s form set₀ m at p adds delta next) where
     pub room : m < most_operations
     room = room_left p next true b.goes refl
 
     module _ (ps' : List Record) (set' m' : ℕ) (ep : ps' ≡ set ps p (started_record m adds delta)) (es : is_in set' ≡ with p (is_in set₀)) (one_more : m' ≡ suc m) where
-      pub runs_start : Runs s form next vals links ps' set' m'
+      pub runs_start : Runs s form next mem ps' set' m'
       runs_start =
-          goes_on p next true b.goes vals links ps' set' m' (start (formed form) p adds delta R.st)
+          goes_on p next true b.goes mem ps' set' m' (start (formed form) p adds delta R.st)
           (take_start (formed form) R.st b.goes.event b.goes.kind
           ∙ sym (λ i. start (formed form) (b.goes.whose i) (b.kind i) (b.amount i) R.st))
-          (subst⁻¹ (Agrees form next (start (formed form) p adds delta R.st) vals links ps' set') one_more (agrees_start form at R.st vals links ps set₀ m R.agrees p (inside p next true b.goes) (free p next true b.goes refl) room adds delta ps' set' ep es next b.goes.stands.further))
+          (subst⁻¹ (Agrees form next (start (formed form) p adds delta R.st) mem ps' set') one_more (agrees_start form at R.st mem ps set₀ m R.agrees p (inside p next true b.goes) (free p next true b.goes refl) room adds delta ps' set' ep es next b.goes.stands.further))
 
-      pub runs_kept_start : (asked : Bool) (k k' : Kept) (greatest greatest' : ℕ → ℕ) → (asked ≡ true → Ledger (formed form) R.st k greatest)
-          → (asked ≡ true → (k' ≡ kept_start m p (kind_of adds) k) × (greatest' ≡ raised p (count_below 64 (is_in set')) greatest)) → RunsKept s form next vals links ps' set' m' asked k' greatest'
+      pub runs_kept_start : (asked : Bool) (k k' : Kept) (greatest greatest' : ℕ → ℕ) → (asked ≡ true → LedgerAgrees (formed form) R.st k greatest)
+          → (asked ≡ true → (k' ≡ kept_start m p (kind_of adds) k) × (greatest' ≡ raised p (count_below 64 (is_in set')) greatest)) → RunsKept s form next mem ps' set' m' asked k' greatest'
       unfolding runs_start goes_on
       runs_kept_start asked k k' greatest greatest' L ek =
           record {
             runs = runs_start;
-            ledger = λ a. ledger_start form at R.st vals links ps set₀ m R.agrees p (inside p next true b.goes) (free p next true b.goes refl) room adds delta ps' set' ep es _ k k' greatest greatest' (L a) refl (ek a).0 (ek a).1;
+            ledger = λ a. ledger_start form at R.st mem ps set₀ m R.agrees p (inside p next true b.goes) (free p next true b.goes refl) room adds delta ps' set' ep es _ k k' greatest greatest' (L a) refl (ek a).0 (ek a).1;
           }
 
 -- ---- the beginning
 
-pub runs_begin : (s : List ℕ) (form : Told) (vals links : List ℕ) (ps : List Record) (set₀ : ℕ) → first_record ≤ length s → Agrees form first_record (initial (formed form)) vals links ps set₀ 0 → Runs s form first_record vals links ps set₀ 0
+pub runs_begin : (s : List ℕ) (form : Told) (mem : Nodes) (ps : List Record) (set₀ : ℕ) → first_record ≤ length s → Agrees form first_record (initial (formed form)) mem ps set₀ 0 → Runs s form first_record mem ps set₀ 0
 unfolding records_of
-runs_begin s form vals links ps set₀ b A = record { st = initial (formed form); most = length s; agrees = A; enough = omega arith; within = b; rest = refl }
+runs_begin s form mem ps set₀ b A = record { st = initial (formed form); most = length s; agrees = A; enough = omega arith; within = b; rest = refl }
 
-pub runs_kept_begin : (s : List ℕ) (form : Told) (vals links : List ℕ) (ps : List Record) (set₀ : ℕ) (asked : Bool) (k : Kept) (greatest : ℕ → ℕ) → first_record ≤ length s → Agrees form first_record (initial (formed form)) vals links ps set₀ 0
-    → Ledger (formed form) (initial (formed form)) k greatest → RunsKept s form first_record vals links ps set₀ 0 asked k greatest
+pub runs_kept_begin : (s : List ℕ) (form : Told) (mem : Nodes) (ps : List Record) (set₀ : ℕ) (asked : Bool) (k : Kept) (greatest : ℕ → ℕ) → first_record ≤ length s → Agrees form first_record (initial (formed form)) mem ps set₀ 0
+    → (asked ≡ true → LedgerAgrees (formed form) (initial (formed form)) k greatest) → RunsKept s form first_record mem ps set₀ 0 asked k greatest
 unfolding runs_begin
-runs_kept_begin s form vals links ps set₀ asked k greatest b A L = record { runs = runs_begin s form vals links ps set₀ b A; ledger = λ a. L }
+runs_kept_begin s form mem ps set₀ asked k greatest b A L = record { runs = runs_begin s form mem ps set₀ b A; ledger = L }
 
 -- ---- the ends
 
@@ -227,23 +233,22 @@ pub row_fits : (F : Form) (st : State) → Good F st → (i : ℕ) → RowFits (
 row_fits F st g i = record { process = omega (arith, g.owners i); kind = g.sorts i }
 
 -- the rows closed have every operation's contention
-closed_ends : (F : Form) (st : State) (k : Kept) (greatest : ℕ → ℕ) → Good F st → Ledger F st k greatest → (i j : ℕ) → i < st.operations → j < 5
+closed_ends : (F : Form) (st : State) (k : Kept) (greatest : ℕ → ℕ) → Good F st → LedgerAgrees F st k greatest → (i j : ℕ) → i < st.operations → j < 5
     → closed greatest st.operations k.rows (5 * i + j) ≡ get_or (row_numbers (st.row i) (contention (st.row i) st.history) (rank F st.history i)) j 0
 closed_ends F st k greatest g L i j b c =
     closed_rows greatest st.operations k.rows st.row L.shown (rank F st.history) L.keeps.rows (λ x y. row_fits F st g x) (shown_small F st L.shown greatest g L.most) L.most.unfinished i j b c
     ∙ ap (λ (n : ℕ). get_or (row_numbers (st.row i) n (rank F st.history i)) j 0) (greatest_closed F st L.held L.shown greatest L.most i b)
 
-pub ends_accepted : (s : List ℕ) (form : Told) (at : ℕ) (vals links : List ℕ) (ps : List Record) (set₀ m : ℕ) (asked : Bool) (counts : List (List ℕ)) (writes : List ℕ) (read : List (List ℕ))
-    (queue turns rows : List ℕ) (l : Listed) (greatest : ℕ → ℕ) (rows' : ℕ → ℕ) → RunsKept s form at vals links ps set₀ m asked (kept_of counts writes read queue turns rows l) greatest → cut_at s at ≡ End
-    → (asked ≡ true → rows' ≡ closed greatest m (as_fun rows)) → (r : Ended) → r.number ≡ 0
-    → r.place ≡ 0 → r.operations ≡ m → r.counter ≡ get_or vals 1 0 → Ends asked (formed form) (length s) rows' r (run (formed form) (initial (formed form)) (records_of s))
-unfolding kept_of memory_of as_fun root
-ends_accepted s form at vals links ps set₀ m asked counts writes read queue turns rows l greatest rows' K e shut r a b c d =
+pub ends_accepted : (s : List ℕ) (form : Told) (at : ℕ) (mem : Nodes) (ps : List Record) (set₀ m : ℕ) (asked : Bool) (k : Kept) (greatest rows : ℕ → ℕ)
+    → RunsKept s form at mem ps set₀ m asked k greatest → cut_at s at ≡ no_more → (asked ≡ true → rows ≡ closed greatest m k.rows) → (r : Accepted)
+    → r.operations ≡ m → r.counter ≡ get_or mem.values 1 0 → Ends asked (formed form) (length s) rows (Ok r) (run (formed form) (initial (formed form)) (records_of s))
+unfolding memory_of as_fun root
+ends_accepted s form at mem ps set₀ m asked k greatest rows K e shut r c d =
     let R = K.runs in
-    subst (Ends asked (formed form) (length s) rows' r) (sym (runs_end s form at vals links ps set₀ m R e))
-    (accepts a b (c ∙ R.agrees.operations) (d ∙ ap (λ (x : Memory). x.value 1) R.agrees.memory) R.agrees.good.few (omega (arith, R.agrees.operations, R.agrees.started, R.within))
-    (λ t i j x y. ap (λ (f : ℕ → ℕ). f (5 * i + j)) (shut t ∙ ap (λ (n : ℕ). closed greatest n (as_fun rows)) R.agrees.operations) ∙ closed_ends (formed form) R.st _ greatest R.agrees.good (K.ledger t) i j x y))
+    subst (Ends asked (formed form) (length s) rows (Ok r)) (sym (runs_end s form at mem ps set₀ m R e))
+    (accepts (c ∙ R.agrees.operations) (d ∙ ap (λ (x : Memory). x.value 1) R.agrees.memory) R.agrees.good.few (omega (arith, R.agrees.operations, R.agrees.started, R.within))
+    (λ t i j x y. ap (λ (f : ℕ → ℕ). f (5 * i + j)) (shut t ∙ ap (λ (n : ℕ). closed greatest n k.rows) R.agrees.operations) ∙ closed_ends (formed form) R.st k greatest R.agrees.good (K.ledger t) i j x y))
 
-pub ends_refused : (asked : Bool) (F : Form) (size : ℕ) (rows : ℕ → ℕ) (o : Outcome) (number place : ℕ) (r : Ended) → (o ≡ refused (record { number = number; place = place })) × (1 ≤ number)
-    → Refuses number place r → Ends asked F size rows r o
-ends_refused asked F size rows o number place r e f = subst (Ends asked F size rows r) (sym e.0) (refuses f e.1)
+pub ends_refused : (asked : Bool) (F : Form) (size : ℕ) (rows : ℕ → ℕ) (o : Outcome) (number place : ℕ) (r : Refused) → o ≡ refused (record { number = number; place = place })
+    → Refuses number place r → Ends asked F size rows (Err r) o
+ends_refused asked F size rows o number place r e f = subst (Ends asked F size rows (Err r)) (sym e) (refuses f)

@@ -1,88 +1,92 @@
 -- What trying a record comes to: from the cut and the refusal, and for the loops by each way it goes.
-use Prim.Native.Nat.{ℕ, ◌<◌}
+use Prim.Native.Nat.{ℕ}
 use native.Mathlib.Omega.{arith}
-use mathlib.Core.Path.{◌≡◌, refl, sym, ap, ◌∙◌, subst}
-use mathlib.Core.Bool.{Bool, true, false, cond}
+use mathlib.Core.Path.{◌≡◌, refl, sym, ap, ◌∙◌}
+use mathlib.Core.Bool.{Bool, true, false}
 use mathlib.Core.List.{List}
-use lib.ListN.{length}
-use lib.Dec.{leb}
-use borrow.Author.Tests.{leb-false}
-use Rattle.recording.specs.Record.{cut_at, next_inside, Cuts}
-use Rattle.recording.specs.declared.Event.{Event}
-use Rattle.recording.specs.declared.Cut.{Cut}
-use Rattle.recording.specs.declared.Cut.TheVariants.{Found, Broken, End}
+use Rattle.std.specs.Prelude.{Option, Some, None, Ok, Err, is_some, unwrap_or}
+use Rattle.refusals.specs.Table.{number_of}
+use Rattle.refusals.specs.declared.Refused.{Refused}
+use Rattle.refusals.specs.declared.Refusal.{Refusal}
+use Rattle.refusals.proofs.Laws.{number_positive}
+use Rattle.recording.specs.Record.{cut_at, next_inside, Cuts, no_more}
+use Rattle.recording.specs.declared.Event.TheVariants.{Step as AStep, Read, Add}
+use Rattle.recording.specs.declared.Found.{Found}
 use Rattle.recording.specs.declared.Form.{Form as Told}
+use Rattle.recording.proofs.Cases.{refused_broken}
 use Rattle.sets.specs.Processes.{is_in}
 use Rattle.meaning.specs.Shape.{formed}
 use Rattle.meaning.specs.Run.{process_of, is_start, refusal_by}
 use Rattle.engine.specs.Ends.{adds_of, delta_of}
 use Rattle.engine.specs.Tries.{Stands, breaks, refuses, Stopped, Goes, Begins, Tries}
-use Rattle.engine.specs.declared.Tried.{Tried}
-use Rattle.engine.specs.declared.Tried.TheVariants.{End as Over, Refused, Step, Start}
-
-broken_left : (s : List ℕ) (at place : ℕ) → cut_at s at ≡ Broken place → at < length s
-unfolding cut_at
-broken_left s at place c = go (leb (length s) at) refl _ c
-  where
-    go : (t : Bool) → leb (length s) at ≡ t → (y : Cut) → cond t End y ≡ Broken place → at < length s
-    go true d y e = let z : ◌≡◌ {A = ℕ} 0 1 = cc in absurd (omega arith)
-    go false d y e = leb-false (length s) at d
+use Rattle.engine.specs.declared.Passed.TheVariants.{Step, Start}
 
 module _ (s : List ℕ) (form : Told) (set₀ m at : ℕ) where
-  pub tries_end : (x : Cut) → Cuts s at x → x ≡ End → Tries s form set₀ m at Over
+  pub tries_end : Cuts s at no_more → Tries s form set₀ m at (Ok None)
   unfolding Tries
-  tries_end x c e = sym c.is ∙ e
+  tries_end c = sym c.is
 
-  pub tries_broken : (x : Cut) (place : ℕ) → Cuts s at x → x ≡ Broken place → Tries s form set₀ m at (Refused 6 place)
+  pub tries_broken : (r : Refused) → Cuts s at (Err r) → Tries s form set₀ m at (Err r)
   unfolding Tries next_inside
-  tries_broken x place c e =
-      let d = sym c.is ∙ e in
-      record { why = breaks refl d (broken_left s at place d); inside = subst (next_inside at (length s)) e c.inside }
+  tries_broken r c =
+      let b = refused_broken s at r (sym c.is) in
+      let name = ap (λ (x : Refused). x.refusal) b.1 in
+      record { why = breaks (ap number_of name) (sym c.is ∙ (λ i. Err (record { refusal = name i; place = r.place }))) b.0; inside = c.inside }
 
   -- an event was cut, and n is its refusal
-  module _ (x : Cut) (e : Event) (next p n : ℕ) (b : Bool) (c : Cuts s at x) (d : x ≡ Found e next) (whose : p ≡ process_of e) (test : b ≡ is_in set₀ p) (number : n ≡ refusal_by (formed form) e b m) where
-    stands : Stands s form set₀ m at e next n
+  module _ (found : Found) (p : ℕ) (b : Bool) (c : Cuts s at (Ok (Some found))) (whose : p ≡ process_of found.event) (test : b ≡ is_in set₀ p) where
+    stands : (n : ℕ) → n ≡ refusal_by (formed form) found.event b m → Stands s form set₀ m at found.event found.next n
     unfolding next_inside
-    stands =
-        let w = subst (next_inside at (length s)) d c.inside in
-        record { found = sym c.is ∙ d; further = w.0; within = w.1; number = number ∙ ap (λ (t : Bool). refusal_by (formed form) e t m) (test ∙ ap (is_in set₀) whose) }
+    stands n number =
+        record {
+          found = sym c.is;
+          further = c.inside.0;
+          within = c.inside.1;
+          number = number ∙ ap (λ (t : Bool). refusal_by (formed form) found.event t m) (test ∙ ap (is_in set₀) whose);
+        }
 
-    pub tries_refused : (n ≡ 0 → ⊥) → Tries s form set₀ m at (Refused n at)
+    pub tries_refused : (r : Refusal) → number_of r ≡ refusal_by (formed form) found.event b m → Tries s form set₀ m at (Err (record { refusal = r; place = at }))
     unfolding Tries
-    tries_refused z = record { why = refuses stands z refl; inside = omega (arith, stands.further, stands.within) }
+    tries_refused r number =
+        let w = stands (number_of r) number in
+        record { why = refuses w (λ z. omega (arith, number_positive r)) refl; inside = omega (arith, w.further, w.within) }
 
-    module _ (z : n ≡ 0) (starts : Bool) (kind : starts ≡ is_start e) where
-      abbrev passing : Goes s form set₀ m at p next starts
-      passing = record { event = e; stands = subst (Stands s form set₀ m at e next) z stands; whose = whose; kind = sym kind }
+    module _ (passes : 0 ≡ refusal_by (formed form) found.event b m) where
+      abbrev passing : (starts : Bool) → is_start found.event ≡ starts → Goes s form set₀ m at p found.next starts
+      passing starts kind = record { event = found.event; stands = stands 0 passes; whose = whose; kind = kind }
 
-      pub tries_step : starts ≡ false → Tries s form set₀ m at (Step p next)
+      pub tries_step : (q : ℕ) → found.event ≡ AStep q → Tries s form set₀ m at (Ok (Some (Step p found.next)))
+      unfolding Tries is_start
+      tries_step q e = passing false (ap is_start e)
+
+      begins : (delta : Option ℕ) → is_start found.event ≡ true → is_some delta ≡ adds_of found.event → unwrap_or delta 0 ≡ delta_of found.event
+          → Tries s form set₀ m at (Ok (Some (Start p delta found.next)))
       unfolding Tries
-      tries_step b = subst (Goes s form set₀ m at p next) b passing
+      begins delta starts adds amount = record { goes = passing true starts; kind = adds; amount = amount }
 
-      pub tries_start : (adds : Bool) (delta : ℕ) → starts ≡ true → adds ≡ adds_of e → delta ≡ delta_of e → Tries s form set₀ m at (Start p adds delta next)
-      unfolding Tries
-      tries_start adds delta b a d =
-          record {
-            goes = record { event = e; stands = passing.stands; whose = whose; kind = sym kind ∙ b };
-            kind = a;
-            amount = d;
-          }
+      pub tries_read : (q : ℕ) → found.event ≡ Read q → Tries s form set₀ m at (Ok (Some (Start p None found.next)))
+      unfolding is_start adds_of delta_of
+      tries_read q e = begins None (ap is_start e) (sym (ap adds_of e)) (sym (ap delta_of e))
+
+      pub tries_add : (q d : ℕ) → found.event ≡ Add q d → Tries s form set₀ m at (Ok (Some (Start p (Some d) found.next)))
+      unfolding is_start adds_of delta_of
+      tries_add q d e = begins (Some d) (ap is_start e) (sym (ap adds_of e)) (sym (ap delta_of e))
 
   -- ---- for the loops
 
-  module _ (x : Tried) (t : Tries s form set₀ m at x) where
-    pub tried_end : x ≡ Over → cut_at s at ≡ End
-    unfolding Tries
-    tried_end e = subst (Tries s form set₀ m at) e t
+  pub tried_end : Tries s form set₀ m at (Ok None) → cut_at s at ≡ no_more
+  unfolding Tries
+  tried_end t = t
 
-    pub tried_stopped : (n place : ℕ) → x ≡ Refused n place → Stopped s form set₀ m at n place
-    unfolding Tries
-    tried_stopped n place e = subst (Tries s form set₀ m at) e t
+  pub tried_stopped : (r : Refused) → Tries s form set₀ m at (Err r) → Stopped s form set₀ m at (number_of r.refusal) r.place
+  unfolding Tries
+  tried_stopped r t = t
 
-    pub tried_step : (p next : ℕ) → x ≡ Step p next → Goes s form set₀ m at p next false
-    unfolding Tries
-    tried_step p next e = subst (Tries s form set₀ m at) e t
+  pub tried_step : (p next : ℕ) → Tries s form set₀ m at (Ok (Some (Step p next))) → Goes s form set₀ m at p next false
+  unfolding Tries
+  tried_step p next t = t
 
-    pub tried_start : (p : ℕ) (adds : Bool) (delta next : ℕ) → x ≡ Start p adds delta next → Begins s form set₀ m at p adds delta next
-    unfolding Tries
-    tried_start p adds delta next e = subst (Tries s form set₀ m at) e t
+  pub tried_start : (p : ℕ) (delta : Option ℕ) (next : ℕ) → Tries s form set₀ m at (Ok (Some (Start p delta next)))
+      → Begins s form set₀ m at p (is_some delta) (unwrap_or delta 0) next
+  unfolding Tries
+  tried_start p delta next t = t

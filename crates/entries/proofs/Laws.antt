@@ -7,6 +7,9 @@ use mathlib.Core.Bool.{Bool, true, false, cond, false≢true}
 use mathlib.Core.List.{List, [], ◌∷◌}
 use lib.ListN.{length}
 use borrow.Author.Tests.{le-leb}
+use Rattle.std.specs.Prelude.{Result, Ok, Err}
+use Rattle.refusals.specs.declared.Refused.{Refused}
+use Rattle.refusals.proofs.Laws.{number_positive}
 use Rattle.recording.specs.Record.{Answer}
 use Rattle.recording.specs.declared.Event.{Event}
 use Rattle.meaning.specs.Refusals.{Refusal, first_of}
@@ -14,20 +17,24 @@ use Rattle.meaning.specs.Layout.{Records, end, broken, event, unknown_shape, hea
 use Rattle.meaning.specs.Shape.{Form, highest_shape}
 use Rattle.meaning.specs.Run.{State, initial, take_event, refusal_by, record_refusal, Outcome, refused, accepted, unless, run, outcome}
 use Rattle.meaning.specs.Report.{needed, passes, answer_with, report_answer, check_with, check_answer}
+use Rattle.engine.proofs.Laws.{same_refused}
 use Rattle.entries.specs.Promises.{answer_of, Reports}
-use Rattle.entries.specs.declared.Reply.{Reply}
 
 -- ---- one outcome
 
-pub same_reply : (a b : Reply) → answer_of a ≡ answer_of b → a ≡ b
-unfolding answer_of
-same_reply a b e = λ i. record { number = (e i).number; place = (e i).place }
+-- no answer but passes is 0, and each refusal has a number of its own
+pub same_result : (a b : Result (Unit {0}) Refused) → answer_of a ≡ answer_of b → a ≡ b
+unfolding answer_of passes
+same_result (Ok x) (Ok y) e = refl
+same_result (Ok x) (Err r) e = absurd (omega (arith, number_positive r.refusal, ap (λ (z : Answer). z.number) e))
+same_result (Err r) (Ok x) e = absurd (omega (arith, number_positive r.refusal, ap (λ (z : Answer). z.number) e))
+same_result (Err r) (Err q) e = ap Err (same_refused r q (ap (λ (z : Answer). z.number) e) (ap (λ (z : Answer). z.place) e))
 
-pub check_one : (s : List ℕ) (a b : Reply) → answer_of a ≡ check_answer s → answer_of b ≡ check_answer s → a ≡ b
-check_one s a b x y = same_reply a b (x ∙ sym y)
+pub check_one : (s : List ℕ) (a b : Result (Unit {0}) Refused) → answer_of a ≡ check_answer s → answer_of b ≡ check_answer s → a ≡ b
+check_one s a b x y = same_result a b (x ∙ sym y)
 
-pub report_one : (s before after after' : List ℕ) (a b : Reply) → Reports s before after a → Reports s before after' b → (a ≡ b) × (after ≡ after')
-report_one s before after after' a b x y = (same_reply a b (x.answer ∙ sym y.answer), x.buffer ∙ sym y.buffer)
+pub report_one : (s before after after' : List ℕ) (a b : Result (Unit {0}) Refused) → Reports s before after (answer_of a) → Reports s before after' (answer_of b) → (a ≡ b) × (after ≡ after')
+report_one s before after after' a b x y = (same_result a b (x.answer ∙ sym y.answer), x.buffer ∙ sym y.buffer)
 
 -- ---- check is report with room enough
 
@@ -64,19 +71,19 @@ record_few : (F : Form) (st : State) (e : Event) → record_refusal F st e ≤ 1
 unfolding record_refusal refusal_by
 record_few F st e = first_few _ (λ g. omega arith, (λ g. omega arith, (λ g. omega arith, (λ g. omega arith, tt))))
 
-number_of : {a b : Answer} → refused a ≡ refused b → a.number ≡ b.number
-number_of e = cc
+same_number : {a b : Answer} → refused a ≡ refused b → a.number ≡ b.number
+same_number e = cc
 
 unless_number : (k at : ℕ) (o : Outcome) (a : Answer) → k ≤ 10 → ((b : Answer) → o ≡ refused b → (1 ≤ b.number) × (b.number ≤ 10)) → unless k at o ≡ refused a
     → (1 ≤ a.number) × (a.number ≤ 10)
 unfolding unless
 unless_number zero at o a few f e = f a e
-unless_number (suc k) at o a few f e = let n : suc k ≡ a.number = number_of e in omega arith
+unless_number (suc k) at o a few f e = let n : suc k ≡ a.number = same_number e in omega arith
 
 run_number : (F : Form) (st : State) (rs : Records) (a : Answer) → run F st rs ≡ refused a → (1 ≤ a.number) × (a.number ≤ 10)
 unfolding run
 run_number F st end a e = let z : ◌≡◌ {A = ℕ} 0 1 = cc in omega arith
-run_number F st (broken at) a e = let n : 6 ≡ a.number = number_of e in omega arith
+run_number F st (broken at) a e = let n : 6 ≡ a.number = same_number e in omega arith
 run_number F st (event at x rs) a e = unless_number (record_refusal F st x) at _ a (record_few F st x) (λ b d. run_number F (take_event F st x) rs b d) e
 
 pub refusal_number : (s : List ℕ) (a : Answer) → outcome s ≡ refused a → (1 ≤ a.number) × (a.number ≤ 10)

@@ -6,11 +6,11 @@ use mathlib.Core.Bool.{Bool, true, false}
 use mathlib.Core.List.{List}
 use lib.ListN.{length}
 use lib.Dec.{eqb}
-use Rattle.recording.specs.Record.{cut_at, next_inside}
+use Rattle.std.specs.Prelude.{Some, None, Ok, Err}
+use Rattle.recording.specs.Record.{cut_at, next_inside, Cut, no_more}
+use Rattle.refusals.specs.declared.Refused.{Refused}
 use Rattle.recording.specs.declared.Event.{Event}
 use Rattle.recording.specs.declared.Event.TheVariants.{Step, Read, Add}
-use Rattle.recording.specs.declared.Cut.{Cut}
-use Rattle.recording.specs.declared.Cut.TheVariants.{Found, Broken, End}
 use Rattle.recording.proofs.Cases.{cuts_some}
 use Rattle.meaning.specs.Shape.{Form, highest_shape}
 use Rattle.meaning.specs.Layout.{Records, end, broken, event, follow, head_refusal, form_of, records_from, first_record, records_of}
@@ -109,11 +109,11 @@ one_more F st (Step p) = omega arith
 one_more F st (Read p) = omega arith
 one_more F st (Add p d) = omega arith
 
-never_broken : (F : Form) (st : State) (place : ℕ) (rest : ℕ → Records) (at : ℕ) (last : State) → run F st (follow F at (Broken place) rest) ≡ accepted last → ⊥
+never_broken : (F : Form) (st : State) (r : Refused) (rest : ℕ → Records) (at : ℕ) (last : State) → run F st (follow F at (Err r) rest) ≡ accepted last → ⊥
 unfolding run follow
-never_broken F st place rest at last e = let z : ◌≡◌ {A = ℕ} 0 1 = cc in omega arith
+never_broken F st r rest at last e = let z : ◌≡◌ {A = ℕ} 0 1 = cc in omega arith
 
-ended : (F : Form) (st : State) (at : ℕ) (rest : ℕ → Records) (last : State) → run F st (follow F at End rest) ≡ accepted last → st ≡ last
+ended : (F : Form) (st : State) (at : ℕ) (rest : ℕ → Records) (last : State) → run F st (follow F at no_more rest) ≡ accepted last → st ≡ last
 unfolding run follow
 ended F st at rest last e = cc
 
@@ -127,12 +127,14 @@ operations_within s F lawful (suc most) at st last inside bytes e = go (cut_at s
     go : (c : Cut) → cut_at s at ≡ c → run F st (follow F at c (records_from F most s)) ≡ accepted last
         → ((next : ℕ) (st' : State) → next ≤ length s → 3 * st'.operations + first_record ≤ next → run F st' (records_from F most s next) ≡ accepted last → 3 * last.operations + first_record ≤ length s)
         → 3 * last.operations + first_record ≤ length s
-    go (Found x next) d z rest =
+    go (Ok (Some f)) d z rest =
+        let x : Event = f.event in
+        let next : ℕ = f.next in
         let further : (at + 3 ≤ next) × (next ≤ length s) = subst (next_inside at (length s)) d (cuts_some s at).inside in
         let on : run F st (event at x (records_from F most s next)) ≡ accepted last = ap (run F st) (sym (follows_found F lawful.kinds at x next (records_from F most s))) ∙ z in
         rest next (take_event F st x) further.1 (omega (arith, one_more F st x)) (none_refused (record_refusal F st x) at _ last on).1
-    go (Broken place) d z rest = absurd (never_broken F st place (records_from F most s) at last z)
-    go End d z rest = let same : st ≡ last = ended F st at (records_from F most s) last z in omega (arith, ap (λ (x : State). x.operations) same)
+    go (Err r) d z rest = absurd (never_broken F st r (records_from F most s) at last z)
+    go (Ok None) d z rest = let same : st ≡ last = ended F st at (records_from F most s) last z in omega (arith, ap (λ (x : State). x.operations) same)
 
 -- an accepted recording has three bytes for each operation after the first six
 pub accepted_bytes : (s : List ℕ) (st : State) → outcome s ≡ accepted st → 3 * st.operations + first_record ≤ length s

@@ -1,83 +1,83 @@
 -- Laws of the queue and of its listing: what a store leaves of the queue, what `keep` leaves of a list, which numbers the ranks change, and
 -- that a listing leaves a queue that can be listed again and allows one outcome.
-use Prim.Native.Nat.{ℕ, zero, suc, ◌+◌, ◌*◌, ◌/◌, ◌%◌, ◌≤◌, ◌<◌}
-use mathlib.Core.Path.{◌≡◌, refl, sym, ap, ap₂, ◌∙◌, subst}
+use Prim.Native.Nat.{ℕ, zero, suc, ◌+◌, ◌%◌, ◌≤◌, ◌<◌}
+use mathlib.Core.Path.{◌≡◌, refl, sym, ap, ◌∙◌, subst}
 use mathlib.Core.Bool.{Bool, true, false, not, cond}
 use mathlib.Core.List.{List, [], ◌∷◌, ◌++◌, Memᴰ}
 use native.Mathlib.Nat.{add-zero}
 use native.Mathlib.Numerals.{add-one}
 use native.Mathlib.Omega.{arith}
-use lib.ListN.{length, set, length-append}
+use lib.ListN.{length, get_or, set, length-append}
+use lib.Seq.{get_or-set_same, get_or-set_other, ext_get_or}
 use lib.Dec.{eqb}
 use borrow.Author.Count.{below_more}
 use borrow.Author.Tests.{eqb-true}
 use Rattle.meaning.specs.Steps.{upd}
 use Rattle.meaning.specs.TakenIn.{further, position_of}
-use Rattle.arrays.specs.Arrays.{as_fun}
 use Rattle.arrays.specs.Numbers.{numbers_in_row, row_from, rank_in}
-use Rattle.arrays.proofs.Laws.{fun_set}
-use Rattle.meaning.proofs.Updates.{upd_same, upd_other}
+use Rattle.meaning.proofs.Updates.{upd_same, upd_other, upd_is}
 use Rattle.taken.specs.CountIn.{Waiter, is_counted}
 use Rattle.taken.proofs.Lists.{All, none, more, all_append, all_front, all_back, all_head, all_keep, length-keep, further_some, listed_some, Distinct, nothing, another}
-use Rattle.listing.specs.Queue.{waiter_at, queue_of, ranked, Lists}
+use Rattle.listing.specs.Queue.{waiter_of, no_waiter, waiters_of, queue_of, ranked, Lists}
 use Rattle.listing.specs.declared.Listed.{Listed}
-
--- a store of v, which is w
-pub stored_as : (xs : List ℕ) (i v w : ℕ) → i < length xs → v ≡ w → as_fun (set xs i v) ≡ upd (as_fun xs) i w
-stored_as xs i v w h e = fun_set xs i v h ∙ ap (upd (as_fun xs) i) e
+use Rattle.listing.specs.declared.Waiter.{Waiter as Stored}
 
 -- ---- the queue
 
-pub length-queue_of : (q t : ℕ → ℕ) (k : ℕ) → length (queue_of q t k) ≡ k
+-- storing a waiter is `upd`
+pub waiters_set : (ws : List Stored) (i : ℕ) (w : Stored) → i < length ws → waiters_of (set ws i w) ≡ upd (waiters_of ws) i (waiter_of w)
+unfolding waiters_of
+waiters_set ws i w h =
+    upd_is (waiters_of ws) i (waiter_of w) (waiters_of (set ws i w)) (ap waiter_of (get_or-set_same ws i w no_waiter h))
+    (λ j n. ap waiter_of (get_or-set_other ws i j w no_waiter n))
+
+stored_of : Waiter → Stored
+stored_of w = record { operation = w.operation; component = w.component; turn = w.turn }
+
+-- two arrays of one length and one function are one list
+pub same_waiters : (xs ys : List Stored) → length xs ≡ length ys → waiters_of xs ≡ waiters_of ys → xs ≡ ys
+unfolding waiters_of waiter_of stored_of
+same_waiters xs ys l e = ext_get_or no_waiter xs ys l (λ i h. ap (λ (f : ℕ → Waiter). stored_of (f i)) e)
+
+pub length-queue_of : (q : ℕ → Waiter) (k : ℕ) → length (queue_of q k) ≡ k
 unfolding queue_of
-length-queue_of q t zero = refl
-length-queue_of q t (suc k) = simp (length-append, length-queue_of q t k) (add-one k)
+length-queue_of q zero = refl
+length-queue_of q (suc k) = simp (length-append, length-queue_of q k) (add-one k)
 
 -- what is stored at the queue's length or beyond is not in it
-pub queue_of_store : (q t : ℕ → ℕ) (m v u k : ℕ) → k ≤ m → queue_of (upd q m v) (upd t m u) k ≡ queue_of q t k
-unfolding queue_of waiter_at
-queue_of_store q t m v u zero h = refl
-queue_of_store q t m v u (suc k) h =
-    rw (queue_of_store q t m v u k (omega arith), upd_other q m v k (λ e. omega arith), upd_other t m u k (λ e. omega arith))
+pub queue_of_store : (q : ℕ → Waiter) (m : ℕ) (w : Waiter) (k : ℕ) → k ≤ m → queue_of (upd q m w) k ≡ queue_of q k
+unfolding queue_of
+queue_of_store q m w zero h = refl
+queue_of_store q m w (suc k) h = rw (queue_of_store q m w k (omega arith), upd_other q m w k (λ e. omega arith))
 
 -- stored at its length, it is the last
-pub queue_of_more : (q t : ℕ → ℕ) (k v u : ℕ)
-    → queue_of (upd q k v) (upd t k u) (suc k) ≡ queue_of q t k ++ (record { operation = v / 64; component = v % 64; turn = u } ∷ [])
-unfolding queue_of waiter_at
-queue_of_more q t k v u = rw (queue_of_store q t k v u k (omega arith), upd_same q k v, upd_same t k u)
-
-pub queue_of_wait : (q t : ℕ → ℕ) (waiting operation p turn : ℕ) → p < 64
-    → queue_of (upd q waiting (operation * 64 + p)) (upd t waiting turn) (suc waiting)
-    ≡ queue_of q t waiting ++ (record { operation = operation; component = p; turn = turn } ∷ [])
-queue_of_wait q t waiting operation p turn h =
-    let i : (operation * 64 + p) / 64 ≡ operation = omega arith in
-    let r : (operation * 64 + p) % 64 ≡ p = omega arith in
-    queue_of_more q t waiting (operation * 64 + p) turn
-    ∙ ap₂ (λ (x y : ℕ). queue_of q t waiting ++ (record { operation = x; component = y; turn = turn } ∷ [])) i r
+pub queue_of_more : (q : ℕ → Waiter) (k : ℕ) (w : Waiter) → queue_of (upd q k w) (suc k) ≡ queue_of q k ++ (w ∷ [])
+unfolding queue_of
+queue_of_more q k w = rw (queue_of_store q k w k (omega arith), upd_same q k w)
 
 -- a property of every waiter, by the list and by the entries
-module _ (P : Waiter → Type 0) (q t : ℕ → ℕ) where
-  pub all_queue_of : (k : ℕ) → ((j : ℕ) → j < k → P (waiter_at q t j)) → All P (queue_of q t k)
+module _ (P : Waiter → Type 0) (q : ℕ → Waiter) where
+  pub all_queue_of : (k : ℕ) → ((j : ℕ) → j < k → P (q j)) → All P (queue_of q k)
   unfolding queue_of
   all_queue_of zero h = none
   all_queue_of (suc k) h = all_append (all_queue_of k (λ j l. h j (omega arith))) (more (h k (omega arith)) none)
 
-  pub queue_of_all : (k : ℕ) → All P (queue_of q t k) → (j : ℕ) → j < k → P (waiter_at q t j)
+  pub queue_of_all : (k : ℕ) → All P (queue_of q k) → (j : ℕ) → j < k → P (q j)
   unfolding queue_of
   queue_of_all zero a j h = absurd (omega arith)
   queue_of_all (suc k) a j h =
-      let last : List Waiter = waiter_at q t k ∷ [] in
-      below_more (λ (m : ℕ). P (waiter_at q t m)) k (queue_of_all k (all_front (queue_of q t k) last a)) (all_head (all_back (queue_of q t k) last a))
+      let last : List Waiter = q k ∷ [] in
+      below_more (λ (m : ℕ). P (q m)) k (queue_of_all k (all_front (queue_of q k) last a)) (all_head (all_back (queue_of q k) last a))
       j (omega arith)
 
 -- the same of the operations' bound, as `CanList` says it
-pub all_operations : (n : ℕ) (q t : ℕ → ℕ) (k : ℕ) → ((j : ℕ) → j < k → q j / 64 < n) → All (λ w. w.operation < n) (queue_of q t k)
-unfolding waiter_at
-all_operations n q t k h = all_queue_of (λ w. w.operation < n) q t k h
+pub all_operations : (n : ℕ) (ws : List Stored) (k : ℕ) → ((j : ℕ) → j < k → (get_or ws j no_waiter).operation < n) → All (λ w. w.operation < n) (queue_of (waiters_of ws) k)
+unfolding waiters_of waiter_of
+all_operations n ws k h = all_queue_of (λ w. w.operation < n) (waiters_of ws) k h
 
-pub operations_all : (n : ℕ) (q t : ℕ → ℕ) (k : ℕ) → All (λ w. w.operation < n) (queue_of q t k) → (j : ℕ) → j < k → q j / 64 < n
-unfolding waiter_at
-operations_all n q t k a = queue_of_all (λ w. w.operation < n) q t k a
+pub operations_all : (n : ℕ) (ws : List Stored) (k : ℕ) → All (λ w. w.operation < n) (queue_of (waiters_of ws) k) → (j : ℕ) → j < k → (get_or ws j no_waiter).operation < n
+unfolding waiters_of waiter_of
+operations_all n ws k a = queue_of_all (λ w. w.operation < n) (waiters_of ws) k a
 
 -- ---- the ranks
 
@@ -130,23 +130,23 @@ ranked_at (another {i = x} {is = xs} n d) k f i s = go (eqb i x) refl s (ranked_
 
 -- ---- the listing
 
-module _ {ws : List Waiter} {count : ℕ → ℕ} {k : ℕ} {f f' q' t' : ℕ → ℕ} {r : Listed} (l : Lists ws count k f f' q' t' r) where
+module _ {ws : List Waiter} {count : ℕ → ℕ} {k : ℕ} {f f' : ℕ → ℕ} {q' : ℕ → Waiter} {r : Listed} (l : Lists ws count k f f' q' r) where
   -- none is lost: those listed and those that wait on
   pub lists_all : r.rank + r.waiting ≡ k + length ws
   lists_all =
-      omega (arith, l.rank, length-keep (is_counted count) ws, length-queue_of q' t' r.waiting, ap length l.waiting)
+      omega (arith, l.rank, length-keep (is_counted count) ws, length-queue_of q' r.waiting, ap length l.waiting)
 
   -- what waits on has the property that all had
-  pub lists_keep : {P : Waiter → Type 0} → All P ws → All P (queue_of q' t' r.waiting)
+  pub lists_keep : {P : Waiter → Type 0} → All P ws → All P (queue_of q' r.waiting)
   lists_keep {P} a = subst (All P) (sym l.waiting) (all_keep (λ w. not (is_counted count w)) a)
 
--- One outcome: the same waiting list, the same numbers of waiting and listed, the same rows. What the two arrays have beyond the waiting
+-- One outcome: the same waiting list, the same numbers of waiting and listed, the same rows. What the array has beyond the waiting
 -- list is free: so the lists are equal, and not the arrays.
-pub lists_one : {ws : List Waiter} {count : ℕ → ℕ} {k : ℕ} {f f₁ q₁ t₁ f₂ q₂ t₂ : ℕ → ℕ} {r s : Listed}
-    → Lists ws count k f f₁ q₁ t₁ r → Lists ws count k f f₂ q₂ t₂ s
-    → (queue_of q₁ t₁ r.waiting ≡ queue_of q₂ t₂ s.waiting) × (r ≡ s) × (f₁ ≡ f₂)
-lists_one {q₁ = q₁} {t₁ = t₁} {q₂ = q₂} {t₂ = t₂} {r = r} {s = s} a b =
+pub lists_one : {ws : List Waiter} {count : ℕ → ℕ} {k : ℕ} {f f₁ f₂ : ℕ → ℕ} {q₁ q₂ : ℕ → Waiter} {r s : Listed}
+    → Lists ws count k f f₁ q₁ r → Lists ws count k f f₂ q₂ s
+    → (queue_of q₁ r.waiting ≡ queue_of q₂ s.waiting) × (r ≡ s) × (f₁ ≡ f₂)
+lists_one {q₁ = q₁} {q₂ = q₂} {r = r} {s = s} a b =
     let list = a.waiting ∙ sym b.waiting in
-    let waiting = sym (length-queue_of q₁ t₁ r.waiting) ∙ ap length list ∙ length-queue_of q₂ t₂ s.waiting in
+    let waiting = sym (length-queue_of q₁ r.waiting) ∙ ap length list ∙ length-queue_of q₂ s.waiting in
     let rank = a.rank ∙ sym b.rank in
     (list, λ i. record { waiting = waiting i; rank = rank i }, a.rows ∙ sym b.rows)

@@ -1,5 +1,5 @@
 -- How a step's parts make what the step promises: the access that its number says, and the step number that the access leads to.
-use Rattle.std.proofs.Common.{◌≡◌, ℕ, ◌+◌, List}
+use Rattle.std.proofs.Common.{◌≡◌, ℕ, ◌+◌}
 use Rattle.recording.specs.declared.Form.{Form as Told}
 use Rattle.meaning.specs.Access.{Access}
 use Rattle.meaning.specs.Shape.{formed}
@@ -8,18 +8,19 @@ use Rattle.spots.specs.Spot.{last_step}
 use Rattle.spots.proofs.Laws.{steps_long}
 use Rattle.machine.specs.Arrays.{memory_of, process_of}
 use Rattle.machine.specs.Nexts.{Nexts, effect_of}
+use Rattle.machine.specs.declared.Memory.{Memory as Nodes}
 use Rattle.machine.specs.declared.Process.{Process as Record}
 
 -- the access a, after which the process is at step k
-pub record Does (f : Told) (p k : ℕ) (a : Access) (r : Record) (vals links vals' links' : List ℕ) (r' : Record) : Type 0 where
-  pub process : process_of r' ≡ at_step k (effect (formed f) p (process_of r) (memory_of vals links) a).process
-  pub stored : r'.stored ≡ (effect (formed f) p (process_of r) (memory_of vals links) a).stored
-  pub memory : memory_of vals' links' ≡ (effect (formed f) p (process_of r) (memory_of vals links) a).memory
+pub record Does (f : Told) (p k : ℕ) (a : Access) (r : Record) (before after : Nodes) (r' : Record) : Type 0 where
+  pub process : process_of r' ≡ at_step k (effect (formed f) p (process_of r) (memory_of before) a).process
+  pub stored : r'.stored ≡ (effect (formed f) p (process_of r) (memory_of before) a).stored
+  pub memory : memory_of after ≡ (effect (formed f) p (process_of r) (memory_of before) a).memory
 
-module _ {f : Told} {p k : ℕ} {a : Access} {r : Record} {vals links vals' links' : List ℕ} {r' : Record} where
+module _ {f : Told} {p k : ℕ} {a : Access} {r : Record} {before after : Nodes} {r' : Record} where
   pub joined : access_of (formed f) p (process_of r) ≡ a
-      → within (r.step + (effect (formed f) p (process_of r) (memory_of vals links) a).passes) (last_step (formed f) p r.adds) ≡ k
-      → Does f p k a r vals links vals' links' r' → Nexts f p r vals links vals' links' r'
+      → within (r.step + (effect (formed f) p (process_of r) (memory_of before) a).passes) (last_step (formed f) p r.adds) ≡ k
+      → Does f p k a r before after r' → Nexts f p r before after r'
   unfolding effect_of next_record process_of
   joined access step d =
       record {

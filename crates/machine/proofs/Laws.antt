@@ -13,6 +13,7 @@ use Rattle.arrays.specs.Arrays.{as_fun}
 use Rattle.arrays.proofs.Laws.{same_list}
 use Rattle.machine.specs.Arrays.{memory_of, seen_by, process_of, idle_record, started_record}
 use Rattle.machine.specs.Nexts.{CanStep, Nexts, effect_of}
+use Rattle.machine.specs.declared.Memory.{Memory as Nodes}
 use Rattle.machine.specs.declared.Process.{Process as Record}
 use Rattle.machine.proofs.Seen.{seen_none}
 
@@ -34,11 +35,11 @@ pub record Kept (F : Form) (p : ℕ) (r r' : Record) : Type 0 where
   pub delta : r'.delta ≡ r.delta
   pub last : r'.step ≤ last_step F p r'.adds
 
-pub next_keeps : (f : Told) (p : ℕ) (r : Record) (vals sets vals' sets' : List ℕ) (r' : Record) → Nexts f p r vals sets vals' sets' r' → Kept (formed f) p r r'
+pub next_keeps : (f : Told) (p : ℕ) (r : Record) (before after : Nodes) (r' : Record) → Nexts f p r before after r' → Kept (formed f) p r r'
 unfolding process_of next_record at_step effect_of
-next_keeps f p r vals sets vals' sets' r' n =
+next_keeps f p r before after r' n =
     let F = formed f in
-    let same = ap job n.process ∙ effect_keeps F p (process_of r) (memory_of vals sets) (access_of F p (process_of r)) in
+    let same = ap job n.process ∙ effect_keeps F p (process_of r) (memory_of before) (access_of F p (process_of r)) in
     let adds : r'.adds ≡ r.adds = ap (λ (q : ℕ × Bool × ℕ). q.1) same in
     let step = ap (λ (q : Process). q.step) n.process in
     record {
@@ -48,10 +49,10 @@ next_keeps f p r vals sets vals' sets' r' n =
       last = rw (adds, ← steps_long F p (process_of r), step) (within_le _ _);
     }
 
-pub next_can : (f : Told) (p : ℕ) (r : Record) (vals sets vals' sets' : List ℕ) (r' : Record) → CanStep f p r → Nexts f p r vals sets vals' sets' r'
+pub next_can : (f : Told) (p : ℕ) (r : Record) (before after : Nodes) (r' : Record) → CanStep f p r → Nexts f p r before after r'
     → 1 ≤ r'.step → CanStep f p r'
-next_can f p r vals sets vals' sets' r' can n busy =
-    let kept = next_keeps f p r vals sets vals' sets' r' n in
+next_can f p r before after r' can n busy =
+    let kept = next_keeps f p r before after r' n in
     record { known = can.known; process = can.process; busy = busy; last = kept.last }
 
 -- ---- one outcome
@@ -67,42 +68,36 @@ same_process r q e d =
     λ i. record {
       delta = (e i).delta;
       seen = (e i).seen;
-      seen_left = (e i).children 0;
-      seen_right = (e i).children 1;
+      children = record { left = (e i).children 0; right = (e i).children 1 };
       operation = (e i).operation;
       step = (e i).step;
       adds = (e i).adds;
       stored = d i;
     }
 
--- arrays as the code has them
-pub record Sized (vals sets : List ℕ) : Type 0 where
-  pub values : length vals ≡ 128
-  pub links : length sets ≡ 64
-  pub fits : (x : ℕ) → x < 64 → as_fun sets x < 2 ^ 64
+-- the memory as the code has it
+pub record Sized (m : Nodes) : Type 0 where
+  pub values : length m.values ≡ 128
+  pub links : length m.links ≡ 64
+  pub fits : (x : ℕ) → x < 64 → as_fun m.links x < 2 ^ 64
 
-pub same_memory : (vals sets vals' sets' : List ℕ) → Sized vals sets → Sized vals' sets' → memory_of vals sets ≡ memory_of vals' sets'
-    → (vals ≡ vals') × (sets ≡ sets')
+pub same_memory : (m n : Nodes) → Sized m → Sized n → memory_of m ≡ memory_of n → m ≡ n
 unfolding memory_of
-same_memory vals sets vals' sets' a b e =
-    let values = same_list vals vals' (a.values ∙ sym b.values) (ap (λ (m : Memory). m.value) e) in
-    let inside : (x : ℕ) → x < length sets → x < 64 = λ x l. rw a.links at l in
-    let links = same_links sets sets' (a.links ∙ sym b.links) (λ x l. a.fits x (inside x l)) (λ x l. b.fits x (inside x l)) (λ x. ap (λ (m : Memory). m.linked x) e) in
-    (values, links)
+same_memory m n a b e =
+    let values = same_list m.values n.values (a.values ∙ sym b.values) (ap (λ (x : Memory). x.value) e) in
+    let inside : (x : ℕ) → x < length m.links → x < 64 = λ x l. rw a.links at l in
+    let links = same_links m.links n.links (a.links ∙ sym b.links) (λ x l. a.fits x (inside x l)) (λ x l. b.fits x (inside x l)) (λ x. ap (λ (y : Memory). y.linked x) e) in
+    λ i. record { values = values i; links = links i }
 
 -- what two outcomes of one step are
-pub record SameOutcome (vals sets : List ℕ) (r : Record) (vals' sets' : List ℕ) (r' : Record) : Type 0 where
+pub record SameOutcome (m : Nodes) (r : Record) (n : Nodes) (r' : Record) : Type 0 where
   pub process : r ≡ r'
-  pub values : vals ≡ vals'
-  pub links : sets ≡ sets'
+  pub memory : m ≡ n
 
-pub same_next : (f : Told) (p : ℕ) (r : Record) (vals sets vals₁ sets₁ : List ℕ) (r₁ : Record) (vals₂ sets₂ : List ℕ) (r₂ : Record)
-    → Sized vals₁ sets₁ → Sized vals₂ sets₂ → Nexts f p r vals sets vals₁ sets₁ r₁ → Nexts f p r vals sets vals₂ sets₂ r₂
-    → SameOutcome vals₁ sets₁ r₁ vals₂ sets₂ r₂
-same_next f p r vals sets vals₁ sets₁ r₁ vals₂ sets₂ r₂ a b m n =
-    let memory = same_memory vals₁ sets₁ vals₂ sets₂ a b (m.memory ∙ sym n.memory) in
+pub same_next : (f : Told) (p : ℕ) (r : Record) (before m : Nodes) (r₁ : Record) (n : Nodes) (r₂ : Record) → Sized m → Sized n → Nexts f p r before m r₁
+    → Nexts f p r before n r₂ → SameOutcome m r₁ n r₂
+same_next f p r before m r₁ n r₂ a b x y =
     record {
-      process = same_process r₁ r₂ (m.process ∙ sym n.process) (m.stored ∙ sym n.stored);
-      values = memory.0;
-      links = memory.1;
+      process = same_process r₁ r₂ (x.process ∙ sym y.process) (x.stored ∙ sym y.stored);
+      memory = same_memory m n a b (x.memory ∙ sym y.memory);
     }

@@ -1,17 +1,19 @@
 -- The definition's functions as the code keeps them: numbers in arrays, sets of processes in a u64 each.
-use Rattle.std.specs.Prelude.{ℕ, Bool, false, cond, List, ◌==◌}
+use Rattle.std.specs.Prelude.{ℕ, Bool, false, cond, ◌==◌}
 use Rattle.sets.specs.Processes.{is_in}
 use Rattle.arrays.specs.Arrays.{as_fun}
 use Rattle.meaning.specs.Steps.{Memory, Process}
+use Rattle.machine.specs.declared.Memory.{Memory as Nodes}
+use Rattle.machine.specs.declared.Children.{Children}
 use Rattle.machine.specs.declared.Process.{Process as Record}
 
 -- the memory that the nodes' values and link sets are
-unfoldable pub memory_of : List ℕ → List ℕ → Memory
-memory_of vals links = record { value = as_fun vals; linked = λ x. is_in (as_fun links x) }
+unfoldable pub memory_of : Nodes → Memory
+memory_of m = record { value = as_fun m.values; linked = λ x. is_in (as_fun m.links x) }
 
 -- what was seen of a node's two children, by their numbers
-unfoldable pub seen_by : ℕ → ℕ → ℕ → ℕ
-seen_by l r c = cond (c == 0) l (cond (c == 1) r 0)
+unfoldable pub seen_by : Children → ℕ → ℕ
+seen_by s c = cond (c == 0) s.left (cond (c == 1) s.right 0)
 
 -- the definition's record of a process that the code's is
 unfoldable pub process_of : Record → Process
@@ -22,7 +24,7 @@ process_of r =
       adds = r.adds;
       delta = r.delta;
       seen = r.seen;
-      children = seen_by r.seen_left r.seen_right;
+      children = seen_by r.children;
     }
 
 -- a record that is idle, and one right after its start record
@@ -31,8 +33,7 @@ idle_record =
     record {
       delta = 0;
       seen = 0;
-      seen_left = 0;
-      seen_right = 0;
+      children = record { left = 0; right = 0 };
       operation = 0;
       step = 0;
       adds = false;
@@ -44,8 +45,7 @@ started_record i adds delta =
     record {
       delta = delta;
       seen = 0;
-      seen_left = 0;
-      seen_right = 0;
+      children = record { left = 0; right = 0 };
       operation = i;
       step = 1;
       adds = adds;

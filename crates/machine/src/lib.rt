@@ -1,15 +1,15 @@
 // A process's record, and its next step on the nodes' values and link sets.
 #![tactic(auto)]
 
-ghost use Rattle.std.specs.Prelude.{◌≡◌, ℕ, ◌+◌, ◌<◌, ◌≤◌, true, List, length};
+ghost use Rattle.std.specs.Prelude.{◌≡◌, ℕ, ◌+◌, ◌<◌, ◌≤◌, true};
 ghost use Rattle.recording.specs.declared.Form.{Form as Told};
 ghost use Rattle.cell.specs.Cell.{state_of};
 ghost use Rattle.meaning.specs.Tree.{child};
-ghost use Rattle.meaning.specs.Shape.{highest_shape};
-ghost use Rattle.meaning.specs.Steps.{upd, cell_at, with_cell};
+ghost use Rattle.meaning.specs.Shape.{highest_shape, formed};
+ghost use Rattle.meaning.specs.Steps.{cell_at, with_cell, with_value};
+ghost use Rattle.meaning.specs.Run.{initial};
 ghost use Rattle.climb.specs.Climb.{Known};
 ghost use Rattle.climb.specs.declared.Spot.{Spot as At};
-ghost use Rattle.arrays.specs.Arrays.{as_fun};
 ghost use Rattle.machine.specs.Arrays.{memory_of, seen_by, idle_record, started_record};
 ghost use Rattle.machine.specs.Nexts.{highest_step, CanStep, Nexts};
 ghost use Rattle.machine.specs.Tries.{There, Stores, leads, copied};
@@ -21,89 +21,93 @@ use recording::Form;
 // The last step of an addition in the highest tree.
 const HIGHEST_STEP: u32 = 50;
 
-// A step number of 0 is idle. `stored` tells whether the latest access was an SC that succeeded.
+// The values of all nodes, in one array, so that a child's is read at one place whether it is a leaf or not; and the inner nodes' link sets.
+#[derive(Clone, Copy)]
+pub struct Memory {
+    pub values: [u32; 128],
+    pub links: [u64; 64],
+}
+
+impl Memory {
+    // What every run begins with.
+    pub fn new() -> Memory
+        ensures { (f : Told) → f.shape ≤ highest_shape → memory_of result ≡ (initial (formed f)).memory }
+    {
+        Memory {
+            values: [0; 128],
+            links: [0; 64],
+        }
+    }
+
+    fn put_value(&mut self, x: usize, v: u32)
+        requires { x < 128 }
+        ensures { memory_of self.new ≡ with_value (memory_of self.old) x v }
+    {
+        arrays::sized(&self.values);
+        self.values[x] = v;
+    }
+
+    fn cell(&self, x: usize) -> Cell
+        requires { x < 64 }
+        ensures { state_of result ≡ cell_at (memory_of self.now) x }
+    {
+        Cell {
+            value: self.values[x],
+            links: self.links[x],
+        }
+    }
+
+    fn put_cell(&mut self, x: usize, c: Cell)
+        requires { x < 64 }
+        ensures { memory_of self.new ≡ with_cell (memory_of self.old) x (state_of c) }
+    {
+        arrays::sized(&self.values);
+        arrays::sized(&self.links);
+        self.values[x] = c.value;
+        self.links[x] = c.links;
+    }
+}
+
+// What has been seen of a node's two children.
+#[derive(Clone, Copy)]
+pub struct Children {
+    pub left: u32,
+    pub right: u32,
+}
+
+impl Children {
+    // A read of one of the children of the node x, or of both.
+    fn read_group(self, x: usize, g: Group, memory: &Memory) -> Children
+        requires x_bound { x < 64 }
+        requires le_count { 1 ≤ g.count }
+        requires count_bound { g.from + g.count ≤ 2 }
+        ensures { seen_by result ≡ copied g.from g.count (λ (c : ℕ). (memory_of memory.now).value (child x c)) (seen_by self) }
+    {
+        // Both are loaded and one or both kept: which of them is hard to foresee, and a jump costs more than a load.
+        let near = memory.values[2 * x];
+        let far = memory.values[2 * x + 1];
+        let left = if g.from == 0 { near } else { self.left };
+        let right = if g.from + g.count == 2 {
+            far
+        } else {
+            self.right
+        };
+        Children { left, right }
+    }
+}
+
+// A step number of 0 is idle. It stays a number: `next` is the match over step numbers with a range that the project's scope names.
+// `stored` tells whether the latest access was an SC that succeeded.
+// `adds` stays beside `delta`: `started` and `next` answer for a read with any delta, which an Option excludes.
 #[derive(Clone, Copy)]
 pub struct Process {
     pub step: u32,
     pub delta: u32,
     pub seen: u32,
-    pub seen_left: u32,
-    pub seen_right: u32,
+    pub children: Children,
     pub operation: u16,
     pub adds: bool,
     pub stored: bool,
-}
-
-// What has been seen of a node's two children.
-#[derive(Clone, Copy)]
-struct Children {
-    left: u32,
-    right: u32,
-}
-
-// That an array is as long as its type says: for the proofs alone, nothing is left of a call at run time.
-fn sized(vals: [u32; 128]) -> bool
-    ensures { length vals ≡ 128 }
-{
-    true
-}
-
-fn sized_links(links: [u64; 64]) -> bool
-    ensures { length links ≡ 64 }
-{
-    true
-}
-
-fn put_value(vals: &mut [u32; 128], x: usize, v: u32)
-    requires { x < 128 }
-    ensures { as_fun vals.new ≡ upd (as_fun vals.old) x v }
-{
-    sized(*vals);
-    vals[x] = v;
-}
-
-fn put_links(links: &mut [u64; 64], x: usize, v: u64)
-    requires { x < 64 }
-    ensures { as_fun links.new ≡ upd (as_fun links.old) x v }
-{
-    sized_links(*links);
-    links[x] = v;
-}
-
-fn cell_at(vals: &[u32; 128], links: &[u64; 64], x: usize) -> Cell
-    requires { x < 64 }
-    ensures { state_of result ≡ cell_at (memory_of vals.now links.now) x }
-{
-    Cell {
-        value: vals[x],
-        links: links[x],
-    }
-}
-
-fn put_cell(vals: &mut [u32; 128], links: &mut [u64; 64], x: usize, c: Cell)
-    requires { x < 64 }
-    ensures { memory_of vals.new links.new ≡ with_cell (memory_of vals.old links.old) x (state_of c) }
-{
-    put_value(vals, x, c.value);
-    put_links(links, x, c.links);
-}
-
-// The read of some children of the node x, one or both: what was seen of them before and is read now.
-fn copy(left: u32, right: u32, x: usize, g: Group, vals: &[u32; 128]) -> Children
-    requires x_bound { x < 64 }
-    requires le_count { 1 ≤ g.count }
-    requires count_bound { g.from + g.count ≤ 2 }
-    ensures { seen_by result.left result.right ≡ copied g.from g.count (λ (c : ℕ). as_fun vals.now (child x c)) (seen_by left right) }
-{
-    // Both are loaded and one or both kept: which of them is hard to foresee, and a jump costs more than a load.
-    let near = vals[2 * x];
-    let far = vals[2 * x + 1];
-    let first = if g.from == 0 { near } else { left };
-    let second = if g.from + g.count == 2 { far } else { right };
-    Children {
-        left: first,
-        right: second,
-    }
 }
 
 // The step number after the SC of step s: "If SC failed and this was the first attempt at this node, one more attempt. Otherwise go up."
@@ -131,8 +135,7 @@ impl Process {
             step: 0,
             delta: 0,
             seen: 0,
-            seen_left: 0,
-            seen_right: 0,
+            children: Children { left: 0, right: 0 },
             operation: 0,
             adds: false,
             stored: false,
@@ -143,86 +146,82 @@ impl Process {
     pub fn started(operation: u16, adds: bool, delta: u32) -> Process
         ensures { result ≡ started_record operation adds delta }
     {
-        let mut next = Process::idle();
-        next.step = 1;
-        next.operation = operation;
-        next.adds = adds;
-        next.delta = delta;
-        next
+        Process {
+            step: 1,
+            operation,
+            adds,
+            delta,
+            ..Process::idle()
+        }
     }
 
     // Step 1: an addition reads its leaf; a read reads the root, and ends.
-    fn read(self, f: Form, p: usize, vals: &[u32; 128]) -> Process
+    fn read(self, f: Form, p: usize, memory: &Memory) -> Process
         requires can_step { CanStep f p self }
         requires step_value { self.step ≡ 1 }
-        ensures { (sets : List ℕ) → Nexts f p self vals.now sets vals.now sets result }
+        ensures { Nexts f p self memory.now memory.now result }
     {
         let mut next = self;
         next.stored = false;
         if self.adds {
-            next.seen = vals[leaf_of(f.height, p)];
+            next.seen = memory.values[leaf_of(f.height, p)];
             next.step = 2;
         } else {
-            next.seen = vals[1];
+            next.seen = memory.values[1];
             next.step = 0;
         }
         next
     }
 
     // The LL of an attempt at the node x.
-    fn link(self, p: usize, x: usize, vals: &mut [u32; 128], links: &mut [u64; 64]) -> Process
+    fn link(self, p: usize, x: usize, memory: &mut Memory) -> Process
         requires x_bound { x < 64 }
         requires step_le_highest_step { self.step ≤ highest_step }
-        ensures { (f : Told) (σ : At) → self.adds ≡ true → There f p self.step x σ → σ.position ≡ 0 → Nexts f p self vals.old links.old vals.new links.new result }
+        ensures { (f : Told) (σ : At) → self.adds ≡ true → There f p self.step x σ → σ.position ≡ 0 → Nexts f p self memory.old memory.new result }
     {
         let mut next = self;
-        let loaded = cell_at(vals, links, x).ll(p);
-        put_cell(vals, links, x, loaded.cell);
+        let mut cell = memory.cell(x);
+        cell.ll(p);
+        memory.put_cell(x, cell);
         next.step = self.step + 1;
         next.stored = false;
         next
     }
 
     // The SC of an attempt at the node x.
-    fn store(
-        self,
-        f: Form,
-        spot: Spot,
-        p: usize,
-        x: usize,
-        vals: &mut [u32; 128],
-        links: &mut [u64; 64],
-    ) -> Process
+    fn store(self, f: Form, spot: Spot, p: usize, x: usize, memory: &mut Memory) -> Process
         requires known { Known f }
         requires adds_value { self.adds ≡ true }
         requires there { There f p self.step x spot }
         requires stores { Stores f x spot }
         requires x_bound { x < 64 }
         requires step_le_highest_step { self.step ≤ highest_step }
-        ensures { Nexts f p self vals.old links.old vals.new links.new result }
+        ensures { Nexts f p self memory.old memory.new result }
     {
         let mut next = self;
-        let sum = std::num::wrapping_add_u32(self.seen_left, self.seen_right);
-        let done = cell_at(vals, links, x).sc(p, sum);
-        put_cell(vals, links, x, done.cell);
-        next.step = after(f, spot, self.step, done.ok);
-        next.stored = done.ok;
+        let sum = self.children.left.wrapping_add(self.children.right);
+        let mut cell = memory.cell(x);
+        let ok = cell.sc(p, sum);
+        memory.put_cell(x, cell);
+        next.step = after(f, spot, self.step, ok);
+        next.stored = ok;
         next
     }
 
-    // One access, decided by the step number.
-    pub fn next(self, f: Form, p: usize, vals: &mut [u32; 128], links: &mut [u64; 64]) -> Process
+    // One access, decided by the step number. Two loops call it, a check's and a report's: as a call it would slow both.
+    #[inline(always)]
+    pub fn next(self, f: Form, p: usize, memory: &mut Memory) -> Process
         requires { CanStep f p self }
-        ensures { Nexts f p self vals.old links.old vals.new links.new result }
+        ensures { Nexts f p self memory.old memory.new result }
     {
         let mut next = self;
         next.stored = false;
         let s = self.step;
         match s {
-            1 => self.read(f, p, vals),
+            1 => self.read(f, p, memory),
             2 => {
-                let sum = std::num::wrapping_add_u32(self.seen, self.delta);
-                put_value(vals, leaf_of(f.height, p), sum);
+                let sum = self.seen.wrapping_add(self.delta);
+                memory.put_value(leaf_of(f.height, p), sum);
                 next.step = 3;
                 next
             }
@@ -231,16 +230,14 @@ impl Process {
                 let x = node_of(f.height, p, spot.level);
                 let i = spot.position;
                 if i == 0 {
-                    return self.link(p, x, vals, links);
+                    return self.link(p, x, memory);
                 }
                 if i <= groups(f) {
-                    let seen = copy(self.seen_left, self.seen_right, x, group_at(f, i - 1), vals);
-                    next.seen_left = seen.left;
-                    next.seen_right = seen.right;
+                    next.children = self.children.read_group(x, group_at(f, i - 1), memory);
                     next.step = s + 1;
                     return next;
                 }
-                self.store(f, spot, p, x, vals, links)
+                self.store(f, spot, p, x, memory)
             }
             _ => next,
         }

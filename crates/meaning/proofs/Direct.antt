@@ -1,7 +1,7 @@
 -- The single values that no recording shows, by computing; and what the contracts of the cell and of the reader and writer promise of a case.
 use Prim.Native.Nat.{ℕ, ◌≤◌, ◌<◌}
 use mathlib.Core.Path.{◌≡◌, refl, ap}
-use mathlib.Core.Bool.{true, false}
+use mathlib.Core.Bool.{Bool, true, false}
 use mathlib.Core.List.{List, [], ◌∷◌, map}
 use Rattle.sets.specs.Processes.{nobody, with, without, count_below, is_in}
 use Rattle.cell.specs.Cell as Cells
@@ -11,14 +11,9 @@ use Rattle.recording.specs.Record.{bytes_of, in_table, whole, event_at, cut_at, 
 use Rattle.recording.specs.Written.{write_answer, write_buffer, written_answer}
 use Rattle.cell.specs.Done.{Links, Stores}
 use Rattle.cell.specs.declared.Cell.{Cell}
-use Rattle.cell.specs.declared.Loaded.{Loaded}
-use Rattle.cell.specs.declared.Stored.{Stored}
-use Rattle.recording.specs.Record.{EventFits, next_inside, Cuts}
-use Rattle.recording.specs.Written.{Writes}
+use Rattle.recording.specs.Record.{EventFits, next_inside, Cuts, Cut, whole_record, no_more, broken_record}
+use Rattle.recording.specs.Written.{Writes, Written}
 use Rattle.recording.specs.declared.Event.TheVariants.{Step, Read, Add}
-use Rattle.recording.specs.declared.Cut.{Cut}
-use Rattle.recording.specs.declared.Cut.TheVariants.{Found, Broken, End}
-use Rattle.recording.specs.declared.Written.{Written}
 use Rattle.meaning.specs.Refusals.{first_of}
 use Rattle.meaning.specs.Layout.{version, follows, height, shape_of, form_of, too_short, other_version, too_long, false_length, no_height, unknown_shape, head_refusal, kind_byte, follow, records_from, records_of}
 use Rattle.meaning.specs.Tree.{processes, leaf_of, left, right, child, parent, ancestor, root}
@@ -46,32 +41,32 @@ direct = refl
 abbrev pub linked : Cell
 linked = record { value = 5; links = 13 }
 
-pub links_1 : (r : Loaded) → Links 1 linked r → (r.value ≡ 5) × (cell_shown (state_of r.cell) ≡ 5 ∷ 0 ∷ 1 ∷ 2 ∷ 3 ∷ [])
+pub links_1 : (answer : ℕ) (after : Cell) → Links 1 linked answer after → (answer ≡ 5) × (cell_shown (state_of after) ≡ 5 ∷ 0 ∷ 1 ∷ 2 ∷ 3 ∷ [])
 unfolding with is_in read_of load_linked state_of
-links_1 r l = (l.value, ap cell_shown l.cell)
+links_1 answer after l = (l.value, ap cell_shown l.cell)
 
-pub stores_2 : (r : Stored) → Stores 9 2 linked r → (r.ok ≡ true) × (cell_shown (state_of r.cell) ≡ 9 ∷ [])
+pub stores_2 : (answer : Bool) (after : Cell) → Stores 9 2 linked answer after → (answer ≡ true) × (cell_shown (state_of after) ≡ 9 ∷ [])
 unfolding nobody is_in succeeds store_conditional state_of
-stores_2 r l = (l.ok, ap cell_shown l.cell)
+stores_2 answer after l = (l.ok, ap cell_shown l.cell)
 
-pub stores_1 : (r : Stored) → Stores 9 1 linked r → (r.ok ≡ false) × (cell_shown (state_of r.cell) ≡ 5 ∷ 0 ∷ 2 ∷ 3 ∷ [])
+pub stores_1 : (answer : Bool) (after : Cell) → Stores 9 1 linked answer after → (answer ≡ false) × (cell_shown (state_of after) ≡ 5 ∷ 0 ∷ 2 ∷ 3 ∷ [])
 unfolding nobody is_in succeeds store_conditional state_of
-stores_1 r l = (l.ok, ap cell_shown l.cell)
+stores_1 answer after l = (l.ok, ap cell_shown l.cell)
 
 pub writes_read : (after : List ℕ) (r : Written) → Writes (Read 7) (1 ∷ 1 ∷ 1 ∷ 1 ∷ []) after r → (answer_shown (written_answer r) ≡ 0 ∷ 3 ∷ []) × (after ≡ 2 ∷ 2 ∷ 7 ∷ 1 ∷ [])
 unfolding bytes_of write_answer write_buffer
 writes_read after r w = (ap answer_shown w.answer, w.buffer)
 
 -- "3 or 7 bytes": the place after a record of 3 bytes at least, and inside
-pub found_inside : (next : ℕ) → next_inside 4 9 (Found (Step 0) next) → (7 ≤ next) × (next ≤ 9)
+pub found_inside : (next : ℕ) → next_inside 4 9 (whole_record (Step 0) next) → (7 ≤ next) × (next ≤ 9)
 unfolding next_inside
 found_inside next i = i
 
-pub broken_inside : (place : ℕ) → next_inside 4 9 (Broken place) → place ≤ 9
+pub broken_inside : (place : ℕ) → next_inside 4 9 (broken_record place) → place ≤ 9
 unfolding next_inside
 broken_inside place i = i
 
-pub end_inside : (at : ℕ) → next_inside at 9 End → 9 ≤ at
+pub end_inside : (at : ℕ) → next_inside at 9 no_more → 9 ≤ at
 unfolding next_inside
 end_inside at i = i
 

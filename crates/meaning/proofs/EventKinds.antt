@@ -5,7 +5,7 @@ use mathlib.Core.Bool.{Bool, true, cond}
 use mathlib.Core.List.{List}
 use Rattle.recording.specs.declared.Event.{Event}
 use Rattle.recording.specs.declared.Event.TheVariants.{Step, Read, Add}
-use Rattle.recording.specs.declared.Cut.TheVariants.{Found}
+use Rattle.recording.specs.Record.{whole_record}
 use Rattle.meaning.specs.Shape.{Form, counting, numbered, formed, is_one_of}
 use Rattle.meaning.specs.Layout.{shape_of, form_of, Records, broken, event, kind_byte, follow}
 
@@ -21,6 +21,6 @@ form_kinds s e = counting_kinds e
 
 -- what follows a whole record, where the shape has every kind
 pub follows_found : (F : Form) → ((e : Event) → is_one_of (kind_byte e) F.shape.kinds ≡ true) → (at : ℕ) (e : Event) (next : ℕ) (rest : ℕ → Records)
-    → follow F at (Found e next) rest ≡ event at e (rest next)
+    → follow F at (whole_record e next) rest ≡ event at e (rest next)
 unfolding follow
 follows_found F all at e next rest = ap (λ (t : Bool). cond t (event at e (rest next)) (broken at)) (all e)

@@ -1,17 +1,15 @@
 -- Single values of definitions that no recording's answer, report and text reaches, or not on both sides of a line: each beside what the
 -- document says, all as lists of numbers. proofs/Direct.antt shows that the two are one.
-use Rattle.std.specs.Prelude.{ℕ, zero, suc, ◌+◌, Bool, true, false, cond, List, [], ◌∷◌, ◌++◌, length, replicate}
+use Rattle.std.specs.Prelude.{ℕ, zero, suc, ◌+◌, Bool, true, false, cond, List, [], ◌∷◌, ◌++◌, length, replicate, Some, None, Ok, Err}
+use Rattle.refusals.specs.Table.{number_of}
 use Rattle.sets.specs.Processes.{nobody, with, without, count_below, is_in}
 use Rattle.cell.specs.Cell as Cells
 use Rattle.cell.specs.Cell.{read_of, load_linked, succeeds, store_conditional, state_of}
 use Rattle.recording.specs.Numbers.{four_bytes, number_at}
-use Rattle.recording.specs.Record.{Answer, bytes_of, in_table, cut_at, cut_answer, read_answer}
-use Rattle.recording.specs.Written.{write_answer, write_buffer, written_answer}
+use Rattle.recording.specs.Record.{Answer, bytes_of, in_table, cut_at, cut_answer, read_answer, Cut, whole_record, no_more, broken_record}
+use Rattle.recording.specs.Written.{write_answer, write_buffer, written_answer, needs_room}
 use Rattle.recording.specs.declared.Event.{Event}
 use Rattle.recording.specs.declared.Event.TheVariants.{Step, Read, Add}
-use Rattle.recording.specs.declared.Cut.{Cut}
-use Rattle.recording.specs.declared.Cut.TheVariants.{Found, Broken, End}
-use Rattle.recording.specs.declared.Written.TheVariants.{Laid, NoRoom}
 use Rattle.meaning.specs.Layout.{head_refusal}
 use Rattle.meaning.specs.Tree.{processes, leaf_of, left, right, child, parent, ancestor, root}
 use Rattle.meaning.specs.Access.{Access, first, second, starts, reads_root, reads_leaf, writes_leaf, links, reads as readsChildren, stores, is_root_read, is_leaf_write, component_of, is_read_of, is_store_at, is_second_link}
@@ -69,9 +67,9 @@ event_shown (Read p) = 2 ∷ p ∷ []
 event_shown (Add p d) = 3 ∷ p ∷ d ∷ []
 
 abbrev pub cut_shown : Cut → List ℕ
-cut_shown (Found e next) = next ∷ event_shown e
-cut_shown (Broken at) = 6 ∷ at ∷ []
-cut_shown End = []
+cut_shown (Ok (Some found)) = found.next ∷ event_shown found.event
+cut_shown (Ok None) = []
+cut_shown (Err r) = number_of r.refusal ∷ r.place ∷ []
 
 -- a tree of shape 0
 abbrev pub tree : ℕ → Form
@@ -220,9 +218,9 @@ of_records =
     -- "with no bytes left, or with a place beyond the lent bytes"
     ∷ (cut_shown (cut_at three 13) is [])
     ∷ (cut_shown (cut_at three 14) is [])
-    ∷ (answer_shown (cut_answer (Found (Read 7) 3)) is 0 ∷ 3 ∷ [])
-    ∷ (answer_shown (cut_answer (Broken 5)) is 6 ∷ 5 ∷ [])
-    ∷ (answer_shown (cut_answer End) is 0 ∷ 0 ∷ [])
+    ∷ (answer_shown (cut_answer (whole_record (Read 7) 3)) is 0 ∷ 3 ∷ [])
+    ∷ (answer_shown (cut_answer (broken_record 5)) is 6 ∷ 5 ∷ [])
+    ∷ (answer_shown (cut_answer no_more) is 0 ∷ 0 ∷ [])
     ∷ (answer_shown (read_answer three 0) is 0 ∷ 3 ∷ [])
     ∷ (answer_shown (read_answer three 3) is 0 ∷ 10 ∷ [])
     ∷ (answer_shown (read_answer three 1) is 6 ∷ 1 ∷ [])
@@ -241,8 +239,8 @@ of_writer =
     ∷ (write_buffer (Read 7) (replicate 4 238) is 2 ∷ 2 ∷ 7 ∷ 238 ∷ [])
     ∷ (write_buffer (Read 7) (replicate 3 238) is 2 ∷ 2 ∷ 7 ∷ [])
     ∷ (write_buffer (Read 7) (replicate 2 238) is 238 ∷ 238 ∷ [])
-    ∷ (answer_shown (written_answer (Laid 3)) is 0 ∷ 3 ∷ [])
-    ∷ (answer_shown (written_answer (NoRoom 7)) is 11 ∷ 7 ∷ [])
+    ∷ (answer_shown (written_answer (Ok 3)) is 0 ∷ 3 ∷ [])
+    ∷ (answer_shown (written_answer (needs_room 7)) is 11 ∷ 7 ∷ [])
     ∷ []
 
 unfoldable pub of_run : List Pair

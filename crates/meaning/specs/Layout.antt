@@ -1,12 +1,10 @@
 -- The recording: its header, and its records to the end.
-use Rattle.std.specs.Prelude.{ℕ, zero, suc, ◌-◌, Bool, not, cond, ◌||◌, List, [], ◌∷◌, length, get_or, ltb, eqb}
+use Rattle.std.specs.Prelude.{ℕ, zero, suc, ◌-◌, Bool, not, cond, ◌||◌, List, [], ◌∷◌, length, get_or, ltb, eqb, Some, None, Ok, Err}
 use Rattle.recording.specs.Numbers.{number_at}
-use Rattle.recording.specs.Record.{cut_at}
+use Rattle.recording.specs.Record.{cut_at, Cut}
 use Rattle.recording.specs.declared.Form.{Form as Told}
 use Rattle.recording.specs.declared.Event.{Event}
 use Rattle.recording.specs.declared.Event.TheVariants.{Step, Read, Add}
-use Rattle.recording.specs.declared.Cut.{Cut}
-use Rattle.recording.specs.declared.Cut.TheVariants.{Found, Broken, End}
 use Rattle.meaning.specs.Refusals.{◌when◌, first_of}
 use Rattle.meaning.specs.Shape.{Form, formed, is_one_of}
 
@@ -89,9 +87,9 @@ kind_byte (Add p d) = 3
 
 -- the next event, where its kind is one of the shape's; "the pair of kind and k is not in the table" otherwise
 unfoldable pub follow : Form → ℕ → Cut → (ℕ → Records) → Records
-follow F at (Found e next) rest = cond (is_one_of (kind_byte e) F.shape.kinds) (event at e (rest next)) (broken at)
-follow F at (Broken place) rest = broken place
-follow F at End rest = end
+follow F at (Ok (Some found)) rest = cond (is_one_of (kind_byte found.event) F.shape.kinds) (event at found.event (rest found.next)) (broken at)
+follow F at (Ok None) rest = end
+follow F at (Err refused) rest = broken refused.place
 
 -- the records from a place on, of which there are at most as many as the first number says
 unfoldable pub records_from : Form → ℕ → List ℕ → ℕ → Records

@@ -19,8 +19,7 @@ use Rattle.meaning.specs.Contention.{contention}
 use Rattle.meaning.specs.TakenIn.{rank}
 use Rattle.meaning.specs.Report.{one, row_bytes, rows_bytes, report_bytes, needed, passes, answer_with, buffer_with, report_answer, report_buffer}
 use Rattle.meaning.specs.Printed.{row_line, row_lines, printed_of, printed}
-use Rattle.entries.specs.Promises.{answer_of, Reports}
-use Rattle.entries.specs.declared.Reply.{Reply}
+use Rattle.entries.specs.Promises.{Reports}
 use Rattle.entries.proofs.Laws.{refusal_positive}
 use Rattle.lines.specs.Text.{kind_text, row_text, row_texts, first_text, report_text, refusal_text}
 use Rattle.laying.specs.Lays.{Lays}
@@ -103,27 +102,27 @@ module _ (F : Form) (st : State) (fits : Fits F st) where
 
 -- ---- by what report promises
 
-module _ (s t buf after : List ℕ) (r : Reply) (cut : t ≡ take 65537 s) (long : length buf ≡ 20489) (x : Reports t buf after r) where
+module _ (s t buf after : List ℕ) (r : Answer) (cut : t ≡ take 65537 s) (long : length buf ≡ 20489) (x : Reports t buf after r) where
   text_of : printed_of (form_of t) (outcome t) ≡ printed s
   unfolding printed
   text_of = ap (λ (l : List ℕ). printed_of (form_of l) (outcome l)) cut
 
   pub refusal_printed : (r.number ≡ 0 → ⊥) → refusal_text r.number r.place ≡ printed s
-  unfolding printed_of refusal_text answer_of report_answer answer_with passes needed
+  unfolding printed_of refusal_text report_answer answer_with passes needed
   refusal_printed some = go (outcome t) refl x.answer ∙ text_of
     where
-      go : (o : Outcome) → outcome t ≡ o → answer_of r ≡ answer_with o (length buf) → refusal_text r.number r.place ≡ printed_of (form_of t) o
+      go : (o : Outcome) → outcome t ≡ o → r ≡ answer_with o (length buf) → refusal_text r.number r.place ≡ printed_of (form_of t) o
       go (refused a) e d = ap (λ (z : Answer). refusal_text z.number z.place) d
       go (accepted st) e d =
-          let its : answer_of r ≡ passes = d ∙ rw (le-leb (needed st) (length buf) (omega (arith, long, (accepted_fits t st e).operations))) in
+          let its : r ≡ passes = d ∙ rw (le-leb (needed st) (length buf) (omega (arith, long, (accepted_fits t st e).operations))) in
           absurd (some (ap (λ (z : Answer). z.number) its))
 
   -- how many rows there are, and the text
   pub report_printed : r.number ≡ 0 → (number_at after 1 / 20 ≤ 1024) × (report_text after ≡ printed s)
-  unfolding answer_of report_answer answer_with report_buffer buffer_with needed report_text
+  unfolding report_answer answer_with report_buffer buffer_with needed report_text
   report_printed none = go (outcome t) refl x.answer x.buffer
     where
-      go : (o : Outcome) → outcome t ≡ o → answer_of r ≡ answer_with o (length buf) → after ≡ buffer_with (form_of t) o buf
+      go : (o : Outcome) → outcome t ≡ o → r ≡ answer_with o (length buf) → after ≡ buffer_with (form_of t) o buf
           → (number_at after 1 / 20 ≤ 1024) × (report_text after ≡ printed s)
       go (refused a) e d b = absurd (omega (arith, refusal_positive t a e, ap (λ (z : Answer). z.number) d))
       go (accepted st) e d b =

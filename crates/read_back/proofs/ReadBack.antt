@@ -22,8 +22,7 @@ use Rattle.history.proofs.UnderWay.{under_way_at, greatest_over, contention_over
 use Rattle.counter.proofs.Number.{run_same}
 use Rattle.counter.proofs.Lists.{mem_up_to, times_not, times_once}
 use Rattle.counter.proofs.Told.{Told}
-use Rattle.entries.specs.Promises.{answer_of, Reports}
-use Rattle.entries.specs.declared.Reply.{Reply}
+use Rattle.entries.specs.Promises.{Reports}
 use Rattle.entries.proofs.Laws.{refusal_positive}
 use Rattle.demand.specs.Demand3.{Demand3}
 use Rattle.read_back.specs.ReadBack.{operations_in, counter_in, process_in, kind_in, finished_in, contention_in, steps_in, answer_in, rank_in, seconds_in, list_in, start_row, start_in, operations_by, under_way, at_once, most_at_once, ReadBack}
@@ -231,5 +230,5 @@ module _ (s : List ℕ) (st : State) (e : outcome s ≡ accepted st) (rest : Lis
 pub read_back : (s buf : List ℕ) → report_answer s buf ≡ passes → ReadBack s (report_buffer s buf)
 read_back s buf e = let p = passed s buf e in subst⁻¹ (ReadBack s) p.2 (bytes_read_back s p.0 p.1 (drop (needed p.0) buf))
 
-pub report_reads_back : (s before after : List ℕ) (r : Reply) → Reports s before after r → answer_of r ≡ passes → ReadBack s after
-report_reads_back s before after r x e = subst⁻¹ (ReadBack s) x.buffer (read_back s before (sym x.answer ∙ e))
+pub report_reads_back : (s before after : List ℕ) (a : Answer) → Reports s before after a → a ≡ passes → ReadBack s after
+report_reads_back s before after a x e = subst⁻¹ (ReadBack s) x.buffer (read_back s before (sym x.answer ∙ e))

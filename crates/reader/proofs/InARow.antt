@@ -6,11 +6,10 @@ use mathlib.Core.List.{List}
 use native.Mathlib.Omega.{arith}
 use lib.ListN.{length}
 use denote.Ref.{Bor}
-use Rattle.recording.specs.Record.{bytes_of, cut_at}
+use Rattle.recording.specs.Record.{bytes_of, cut_at, Cut, whole_record}
 use Rattle.recording.specs.declared.Event.{Event}
 use Rattle.recording.specs.declared.Event.TheVariants.{Step, Read, Add}
-use Rattle.recording.specs.declared.Cut.{Cut}
-use Rattle.recording.specs.declared.Cut.TheVariants.{Found, Broken, End}
+use Rattle.std.specs.Prelude.{Some, None, Ok, Err}
 use Rattle.recording.proofs.Cases.{cuts_some}
 use Rattle.meaning.specs.Shape.{Form, is_one_of}
 use Rattle.meaning.specs.Layout.{form_of, Records, event, kind_byte, follow, records_from, records_of}
@@ -35,13 +34,13 @@ module _ (F : Form) where
   followed {r} p most = ap (λ (c : Cut). follow F r.place c (records_from F most r.rec.now)) (sym p.gives.cuts.is)
 
   -- the definition goes on where the reader now stands
-  goes_on : {r r' : Reader} {e : Event} {next : ℕ} → Reads r r' (Found e next) → (most : ℕ)
+  goes_on : {r r' : Reader} {e : Event} {next : ℕ} → Reads r r' (whole_record e next) → (most : ℕ)
       → records_from F most r'.rec.now r'.place ≡ records_from F most r.rec.now next
   goes_on {r} {r'} p most =
       ap (λ (s : List ℕ). records_from F most s r'.place) (ap (λ x. x.now) p.keeps) ∙ ap (records_from F most r.rec.now) (event_moves p).0
 
 -- with one record less to come
-fewer : {r r' : Reader} {e : Event} {next : ℕ} → Reads r r' (Found e next) → (most : ℕ) → length r.rec.now ≤ r.place + suc most
+fewer : {r r' : Reader} {e : Event} {next : ℕ} → Reads r r' (whole_record e next) → (most : ℕ) → length r.rec.now ≤ r.place + suc most
     → length r'.rec.now ≤ r'.place + most
 fewer {e = e} p most enough = omega (arith, ap (λ x. length x.now) p.keeps, bytes_some e, (event_moves p).0, (event_moves p).1)
 
@@ -77,13 +76,14 @@ turn r = record { gives = reads_at_lem _ (cuts_some r.rec.now r.place) refl; kee
 
 module _ (F : Form) (all : (e : Event) → is_one_of (kind_byte e) F.shape.kinds ≡ true) where
   hands_on : {r r' : Reader} {c : Cut} → Reads r r' c → (most : ℕ)
-      → ((e : Event) (next : ℕ) → Reads r r' (Found e next) → HandsOut r' (records_from F most r.rec.now next))
+      → ((e : Event) (next : ℕ) → Reads r r' (whole_record e next) → HandsOut r' (records_from F most r.rec.now next))
       → HandsOut r (follow F r.place c (records_from F most r.rec.now))
   unfolding follow
-  hands_on {r} {c = Found e next} p most rest =
-      subst (HandsOut r) (sym (follows_found F all r.place e next (records_from F most r.rec.now))) (hands p (rest e next p))
-  hands_on {c = Broken offset} p most rest = refuses p
-  hands_on {c = End} p most rest = ends p
+  hands_on {r} {c = Ok (Some found)} p most rest =
+      subst (HandsOut r) (sym (follows_found F all r.place found.event found.next (records_from F most r.rec.now)))
+      (hands p (rest found.event found.next p))
+  hands_on {c = Err refused} p most rest = refuses p
+  hands_on {c = Ok None} p most rest = ends p
 
   hands_enough : (most : ℕ) (r : Reader) → length r.rec.now ≤ r.place + most → HandsOut r (records_from F most r.rec.now r.place)
   unfolding records_from

@@ -2,19 +2,16 @@
 -- it past its bytes, and a record that was written is read back.
 use Prim.Native.Nat.{ℕ, ◌+◌, ◌≤◌}
 use mathlib.Core.Path.{◌≡◌, refl, sym, ap, ◌∙◌}
-use mathlib.Core.Bool.{Bool, true, false, cond}
 use mathlib.Core.List.{List, ◌++◌}
 use native.Mathlib.Omega.{arith}
-use lib.Dec.{leb}
-use lib.ListN.{length, get_or, drop}
-use borrow.Author.Tests.{leb-true}
-use Rattle.recording.specs.Record.{Cuts, EventFits, bytes_of, cut_answer, cut_at, event_at, whole}
-use Rattle.recording.specs.Written.{Writes}
+use lib.ListN.{length, drop}
+use Rattle.recording.specs.Record.{Cuts, EventFits, bytes_of, cut_answer, cut_at, Cut, whole_record, no_more}
+use Rattle.recording.specs.Written.{Writes, Written}
 use Rattle.recording.specs.declared.Event.{Event}
-use Rattle.recording.specs.declared.Cut.{Cut}
-use Rattle.recording.specs.declared.Cut.TheVariants.{Found, Broken, End}
-use Rattle.recording.specs.declared.Written.{Written}
-use Rattle.recording.proofs.Cases.{ended, found_whole}
+use Rattle.recording.specs.declared.Found.{Found}
+use Rattle.std.specs.Prelude.{Option, Some, None, Ok, Err}
+use Rattle.refusals.specs.declared.Refused.{Refused}
+use Rattle.recording.proofs.Cases.{ended, found_whole, refused_broken, ends_beyond}
 use Rattle.recording.proofs.Laws.{cuts_one, lays, written_reads_back}
 use Rattle.reader.specs.Reads.{Reads, ReadsAt, place_after}
 use Rattle.reader.specs.declared.Reader.{Reader}
@@ -25,6 +22,20 @@ use Rattle.reader.specs.declared.Reading.{Reading}
 pub reads_at_lem : {s : List ℕ} {at : ℕ} {r : Cut} (place : ℕ) → Cuts s at r → place ≡ place_after at r
     → ReadsAt s at (record { cut = r; place = place })
 reads_at_lem place c h = record { cuts = c; moves = h }
+
+-- by what the cut's answer is
+module _ {s : List ℕ} {at : ℕ} {r : Cut} (c : Cuts s at r) where
+  pub reads_found : {o : Option Found} {f : Found} → r ≡ Ok o → o ≡ Some f → ReadsAt s at (record { cut = r; place = f.next })
+  unfolding place_after
+  reads_found e d = reads_at_lem _ c (sym (ap (place_after at) (e ∙ ap Ok d)))
+
+  pub reads_end : {o : Option Found} → r ≡ Ok o → o ≡ None → ReadsAt s at (record { cut = r; place = at })
+  unfolding place_after
+  reads_end e d = reads_at_lem _ c (sym (ap (place_after at) (e ∙ ap Ok d)))
+
+  pub reads_refused : {x : Refused} → r ≡ Err x → ReadsAt s at (record { cut = r; place = at })
+  unfolding place_after
+  reads_refused e = reads_at_lem _ c (sym (ap (place_after at) e))
 
 pub reads_on : (before : Reader) (r : Reading) → ReadsAt before.rec.now before.place r
     → Reads before (record { rec = before.rec; place = r.place }) r.cut
@@ -48,47 +59,31 @@ reads_one p q =
 
 -- ---- where the place stays, and where it goes
 
-refused_at : (ends fine : Bool) (e : Event) (at next offset : ℕ) → cond ends End (cond fine (Found e next) (Broken at)) ≡ Broken offset
-    → offset ≡ at
-refused_at true fine e at next offset h = let z : ◌≡◌ {A = ℕ} 0 1 = cc in absurd (omega arith)
-refused_at false true e at next offset h = let z : ◌≡◌ {A = ℕ} 0 1 = cc in absurd (omega arith)
-refused_at false false e at next offset h = cc
-
-pub broken_at : (s : List ℕ) (at : ℕ) {offset : ℕ} → cut_at s at ≡ Broken offset → offset ≡ at
-unfolding cut_at
-broken_at s at {offset} h = refused_at (leb (length s) at) (whole s at) (event_at s at) at (at + 1 + get_or s at 0) offset h
-
-ends_at : (ends fine : Bool) (e : Event) (at next : ℕ) → cond ends End (cond fine (Found e next) (Broken at)) ≡ End → ends ≡ true
-ends_at true fine e at next h = refl
-ends_at false true e at next h = cc
-ends_at false false e at next h = cc
+pub broken_at : (s : List ℕ) (at : ℕ) {r : Refused} → cut_at s at ≡ Err r → r.place ≡ at
+broken_at s at {r} h = ap (λ (x : Refused). x.place) (refused_broken s at r h).1
 
 -- "it answers 6 with that record's offset and its place does not move"
 pub refused_stays : {before after : Reader} {r : Cut} → Reads before after r → (cut_answer r).number ≡ 6
     → ((cut_answer r).place ≡ before.place) × (after ≡ before)
 unfolding cut_answer place_after
-refused_stays {r = Found e next} p six = absurd (omega arith)
-refused_stays {before} {r = Broken offset} p six =
+refused_stays {r = Ok (Some found)} p six = absurd (omega arith)
+refused_stays {before} {r = Err refused} p six =
     (broken_at before.rec.now before.place (sym p.gives.cuts.is), same_reader p.keeps p.gives.moves)
-refused_stays {r = End} p six = absurd (omega arith)
+refused_stays {r = Ok None} p six = absurd (omega arith)
 
 -- "With no bytes left, or with a place beyond the lent bytes, it says that the end is reached", and only there; the place stays
 pub beyond_ends : {before after : Reader} {r : Cut} → Reads before after r → length before.rec.now ≤ before.place
-    → (r ≡ End) × (after ≡ before)
+    → (r ≡ no_more) × (after ≡ before)
 unfolding place_after
 beyond_ends {before} p h =
     let e = p.gives.cuts.is ∙ sym (ended before.rec.now before.place h).is in
     (e, same_reader p.keeps (p.gives.moves ∙ ap (place_after before.place) e))
 
-pub end_is_beyond : {before after : Reader} → Reads before after End → length before.rec.now ≤ before.place
-unfolding cut_at
-end_is_beyond {before} p =
-    let s = before.rec.now in
-    let at = before.place in
-    leb-true (length s) at (ends_at (leb (length s) at) (whole s at) (event_at s at) at (at + 1 + get_or s at 0) (sym p.gives.cuts.is))
+pub end_is_beyond : {before after : Reader} → Reads before after no_more → length before.rec.now ≤ before.place
+end_is_beyond {before} p = ends_beyond before.rec.now before.place (sym p.gives.cuts.is)
 
 -- an event moves the place past its bytes
-pub event_moves : {before after : Reader} {e : Event} {next : ℕ} → Reads before after (Found e next)
+pub event_moves : {before after : Reader} {e : Event} {next : ℕ} → Reads before after (whole_record e next)
     → (after.place ≡ next) × (next ≡ before.place + length (bytes_of e))
 unfolding place_after
 event_moves {before} p = (p.gives.moves, (found_whole before.rec.now before.place (sym p.gives.cuts.is)).1)
@@ -98,7 +93,7 @@ event_moves {before} p = (p.gives.moves, (found_whole before.rec.now before.plac
 pub written_is_read : (front : List ℕ) {e : Event} {buf left : List ℕ} {w : Written} → EventFits e → length (bytes_of e) ≤ length buf
     → Writes e buf left w → {before after : Reader} {r : Cut} → Reads before after r → before.rec.now ≡ front ++ left
     → before.place ≡ length front
-    → (r ≡ Found e (length front + length (bytes_of e))) × (after.place ≡ length front + length (bytes_of e))
+    → (r ≡ whole_record e (length front + length (bytes_of e))) × (after.place ≡ length front + length (bytes_of e))
 unfolding place_after
 written_is_read front {e} {buf} fits room w {before} p bytes place =
     let there = bytes ∙ ap (λ (s : List ℕ). front ++ s) (lays room w).1 in

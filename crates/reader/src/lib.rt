@@ -5,7 +5,8 @@
 ghost use Rattle.std.specs.Prelude.{◌≡◌};
 ghost use Rattle.reader.specs.Reads.{Reads, ReadsAt, reader_of};
 
-use recording::{Cut, FIRST_RECORD};
+use recording::{FIRST_RECORD, Found};
+use refusals::Refused;
 
 #[derive(Clone, Copy)]
 pub struct Reader<'a> {
@@ -13,10 +14,10 @@ pub struct Reader<'a> {
     pub place: usize,
 }
 
-// What is handed out at a place, and the place afterwards.
+// What is handed out at a place, and the place afterwards, which a caller with no `Reader` has nowhere else.
 #[derive(Clone, Copy)]
 pub struct Reading {
-    pub cut: Cut,
+    pub cut: Result<Option<Found>, Refused>,
     pub place: usize,
 }
 
@@ -25,9 +26,12 @@ pub fn reading_at(rec: &[u8], place: usize) -> Reading
 {
     let cut = recording::cut_at(rec, place);
     match cut {
-        Cut::Found(_, next) => Reading { cut, place: next },
-        Cut::Broken(_) => Reading { cut, place },
-        Cut::End => Reading { cut, place },
+        Ok(Some(found)) => Reading {
+            cut,
+            place: found.next,
+        },
+        Ok(None) => Reading { cut, place },
+        Err(_) => Reading { cut, place },
     }
 }
 
@@ -42,7 +46,7 @@ impl<'a> Reader<'a> {
     }
 
     // Hands out what stands at the place, also beyond the bytes. The place moves past an event, and not at a refusal or at the end.
-    pub fn next(&mut self) -> Cut
+    pub fn next(&mut self) -> Result<Option<Found>, Refused>
         ensures { Reads self.old self.new result }
     {
         let reading = reading_at(self.rec, self.place);

@@ -1,21 +1,21 @@
 -- Which answer of the cut is right: one lemma for each case of `cut_at`. `Whole s at e` says by its three rows what a whole record with the
 -- event e at a place is; the cut finds e just where it holds.
-use Prim.Native.Nat.{ℕ, ◌+◌, ◌*◌, ◌-◌, ◌/◌, ◌^◌, ◌≤◌, ◌<◌}
+use Prim.Native.Nat.{ℕ, ◌+◌, ◌*◌, ◌-◌, ◌/◌, ◌≤◌, ◌<◌}
 use mathlib.Core.Path.{◌≡◌, refl, sym, ap, subst, ◌∙◌}
 use mathlib.Core.Bool.{Bool, true, false, cond, ◌&&◌, ◌||◌, true≢false}
 use mathlib.Core.List.{List}
 use mathlib.Core.Logic.{◌⊎◌, inl, inr, ⊎_elim}
 use native.Mathlib.Omega.{arith}
-use native.Mathlib.Nat.{add_assoc}
 use lib.ListN.{length, get_or}
 use lib.Dec.{leb, eqb}
 use borrow.Author.Tests.{leb-true, leb-false, eqb-true, le-leb, lt-leb}
+use Rattle.std.specs.Prelude.{Some, None, Ok, Err}
+use Rattle.refusals.specs.declared.Refused.{Refused}
+use Rattle.refusals.specs.declared.Refusal.TheVariants.{BrokenRecord}
 use Rattle.recording.specs.Numbers.{four_bytes, number_at}
-use Rattle.recording.specs.Record.{Cuts, cut_answer, cut_at, read_answer, whole, in_table, event_at, bytes_of, next_inside}
+use Rattle.recording.specs.Record.{Cuts, cut_answer, cut_at, read_answer, whole, in_table, event_at, bytes_of, next_inside, Cut, whole_record, no_more, broken_record}
 use Rattle.recording.specs.declared.Event.{Event}
 use Rattle.recording.specs.declared.Event.TheVariants.{Step, Read, Add}
-use Rattle.recording.specs.declared.Cut.{Cut}
-use Rattle.recording.specs.declared.Cut.TheVariants.{Found, Broken, End}
 
 -- a whole record, by its row of the table
 pub data Whole (s : List ℕ) (at : ℕ) : Event → Type 0 where
@@ -48,15 +48,56 @@ rows kind k h =
     (or_true ((eqb kind 1 && eqb k 2) || (eqb kind 2 && eqb k 2)) (eqb kind 3 && eqb k 6) h)
 
 -- the way from a found record back through the tests
-picked : (ends fine : Bool) (e e' : Event) (at n n' : ℕ) → cond ends End (cond fine (Found e n) (Broken at)) ≡ Found e' n'
+finds : Cut → Bool
+finds (Ok (Some f)) = true
+finds (Ok None) = false
+finds (Err r) = false
+
+event_or : Event → Cut → Event
+event_or e (Ok (Some f)) = f.event
+event_or e (Ok None) = e
+event_or e (Err r) = e
+
+next_or : ℕ → Cut → ℕ
+next_or n (Ok (Some f)) = f.next
+next_or n (Ok None) = n
+next_or n (Err r) = n
+
+picked : (ends fine : Bool) (e e' : Event) (at n n' : ℕ) → cond ends no_more (cond fine (whole_record e n) (broken_record at)) ≡ whole_record e' n'
     → (fine ≡ true) × (e ≡ e') × (n ≡ n')
-picked true fine e e' at n n' h = let z : ◌≡◌ {A = ℕ} 0 1 = cc in absurd (omega arith)
-picked false true e e' at n n' h = (refl, cc, cc)
-picked false false e e' at n n' h = let z : ◌≡◌ {A = ℕ} 0 1 = cc in absurd (omega arith)
+unfolding finds event_or next_or
+picked true fine e e' at n n' h = absurd (true≢false (sym (ap finds h)))
+picked false true e e' at n n' h = (refl, ap (event_or e) h, ap (next_or n) h)
+picked false false e e' at n n' h = absurd (true≢false (sym (ap finds h)))
+
+refused_or : Refused → Cut → Refused
+refused_or d (Ok (Some f)) = d
+refused_or d (Ok None) = d
+refused_or d (Err r) = r
+
+refuses : Cut → Bool
+refuses (Ok (Some f)) = false
+refuses (Ok None) = false
+refuses (Err r) = true
+
+-- what is refused at a place is the record there
+refused_is : (ends fine : Bool) (e : Event) (at n : ℕ) (r : Refused) → cond ends no_more (cond fine (whole_record e n) (broken_record at)) ≡ Err r
+    → (ends ≡ false) × (r ≡ record { refusal = BrokenRecord; place = at })
+unfolding refused_or refuses
+refused_is true fine e at n r h = absurd (true≢false (sym (ap refuses h)))
+refused_is false true e at n r h = absurd (true≢false (sym (ap refuses h)))
+refused_is false false e at n r h = (refl, sym (ap (refused_or r) h))
+
+-- there is no more only at the end
+ends_is : (ends fine : Bool) (e : Event) (at n : ℕ) → cond ends no_more (cond fine (whole_record e n) (broken_record at)) ≡ no_more → ends ≡ true
+unfolding finds refuses
+ends_is true fine e at n h = refl
+ends_is false true e at n h = absurd (true≢false (ap finds h))
+ends_is false false e at n h = absurd (true≢false (ap refuses h))
 
 -- the tabled answer of each case
 answered : (ends fine : Bool) (e : Event) (at n : ℕ)
-    → cut_answer (cond ends End (cond fine (Found e n) (Broken at)))
+    → cut_answer (cond ends no_more (cond fine (whole_record e n) (broken_record at)))
     ≡ cond ends (record { number = 0; place = 0 }) (cond fine (record { number = 0; place = n }) (record { number = 6; place = at }))
 unfolding cut_answer
 answered true fine e at n = refl
@@ -109,22 +150,32 @@ module _ (s : List ℕ) (at : ℕ) where
   shape (read k kind proc room) = omega arith
   shape (add k kind proc delta room) = omega arith
 
-  pub ended : length s ≤ at → Cuts s at End
+  pub refused_broken : (r : Refused) → cut_at s at ≡ Err r → (at < length s) × (r ≡ record { refusal = BrokenRecord; place = at })
+  unfolding cut_at
+  refused_broken r h =
+      let w = refused_is (leb (length s) at) (whole s at) (event_at s at) at (at + 1 + get_or s at 0) r h in
+      (leb-false (length s) at w.0, w.1)
+
+  pub ends_beyond : cut_at s at ≡ no_more → length s ≤ at
+  unfolding cut_at
+  ends_beyond h = leb-true (length s) at (ends_is (leb (length s) at) (whole s at) (event_at s at) at (at + 1 + get_or s at 0) h)
+
+  pub ended : length s ≤ at → Cuts s at no_more
   unfolding cut_at next_inside
   ended h = cuts (simp (le-leb (length s) at h)) h
 
-  pub broken : at < length s → ((e : Event) → Whole s at e → ⊥) → Cuts s at (Broken at)
+  pub broken : at < length s → ((e : Event) → Whole s at e → ⊥) → Cuts s at (broken_record at)
   unfolding cut_at next_inside
   broken h none =
       cuts (simp (lt-leb (length s) at h, is_false (whole s at) (λ w. none (event_at s at) (is_whole w)))) (omega arith)
 
-  pub cut_found : {e : Event} → Whole s at e → cut_at s at ≡ Found e (at + length (bytes_of e))
+  pub cut_found : {e : Event} → Whole s at e → cut_at s at ≡ whole_record e (at + length (bytes_of e))
   unfolding cut_at
   cut_found w = simp (lt-leb (length s) at (omega (arith, shape w)), whole_is w, event_is w, next_is w)
 
-  pub found : {e : Event} {next : ℕ} → Whole s at e → next ≡ at + length (bytes_of e) → Cuts s at (Found e next)
+  pub found : {e : Event} {next : ℕ} → Whole s at e → next ≡ at + length (bytes_of e) → Cuts s at (whole_record e next)
   unfolding next_inside
-  found {e} w n = cuts (ap (Found e) n ∙ sym (cut_found w)) (omega (arith, shape w, next_is w))
+  found {e} w n = cuts (ap (whole_record e) n ∙ sym (cut_found w)) (omega (arith, shape w, next_is w))
 
   -- every place has an answer
   pub cuts_some : Cuts s at (cut_at s at)
@@ -138,14 +189,9 @@ module _ (s : List ℕ) (at : ℕ) where
       go false e true f = same (found (is_whole f) refl)
       go false e false f = same (broken (leb-false (length s) at e) (λ ev w. true≢false (sym (whole_is w) ∙ f)))
 
-  pub found_whole : {e : Event} {next : ℕ} → cut_at s at ≡ Found e next → Whole s at e × (next ≡ at + length (bytes_of e))
+  pub found_whole : {e : Event} {next : ℕ} → cut_at s at ≡ whole_record e next → Whole s at e × (next ≡ at + length (bytes_of e))
   unfolding cut_at
   found_whole {e} {next} h =
       let p = picked (leb (length s) at) (whole s at) (event_at s at) e at (at + 1 + get_or s at 0) next h in
       let w : Whole s at e = rw p.1 at (is_whole p.0) in
       (w, sym p.2 ∙ next_is w)
-
-  -- the delta's bytes, counted from the record's place
-  pub delta_is : number_at s (at + 3) ≡ get_or s (at + 3) 0 * 2 ^ 24 + get_or s (at + 4) 0 * 2 ^ 16 + get_or s (at + 5) 0 * 2 ^ 8 + get_or s (at + 6) 0
-  unfolding number_at
-  delta_is = simp add_assoc

@@ -12,15 +12,13 @@ use lib.Seq.{drop-cons, take-append_seam, drop-append_seam, get_or-append_seam, 
 use lib.Pow.{recompose, mod-pow-add}
 use lib.Dec.{leb}
 use borrow.Author.Tests.{le-leb, leb-true}
+use Rattle.std.specs.Prelude.{Ok, Err}
+use Rattle.refusals.proofs.Laws.{number_positive, number_one}
 use Rattle.recording.specs.Numbers.{four_bytes, number_at}
-use Rattle.recording.specs.Record.{Answer, Cuts, EventFits, bytes_of, cut_at}
-use Rattle.recording.specs.Written.{Writes, write_answer, write_buffer, written_answer}
+use Rattle.recording.specs.Record.{Answer, Cuts, EventFits, bytes_of, cut_at, Cut, whole_record}
+use Rattle.recording.specs.Written.{Writes, write_answer, write_buffer, written_answer, Written}
 use Rattle.recording.specs.declared.Event.{Event}
 use Rattle.recording.specs.declared.Event.TheVariants.{Step, Read, Add}
-use Rattle.recording.specs.declared.Cut.{Cut}
-use Rattle.recording.specs.declared.Cut.TheVariants.{Found}
-use Rattle.recording.specs.declared.Written.{Written}
-use Rattle.recording.specs.declared.Written.TheVariants.{Laid, NoRoom}
 use Rattle.recording.proofs.Cases.{Whole, step, read, add, cut_found, found_whole}
 
 -- ---- the four bytes of a number
@@ -71,7 +69,7 @@ whole_there front rest (Add p d) h =
     (simp (length-append, length-four_bytes) (omega arith))
 
 pub written_reads_back : (front rest : List ℕ) (e : Event) → EventFits e
-    → cut_at (front ++ (bytes_of e ++ rest)) (length front) ≡ Found e (length front + length (bytes_of e))
+    → cut_at (front ++ (bytes_of e ++ rest)) (length front) ≡ whole_record e (length front + length (bytes_of e))
 written_reads_back front rest e h = cut_found _ _ (whole_there front rest e h)
 
 -- ---- read, and written back
@@ -102,7 +100,7 @@ module _ (s : List ℕ) (bytes : (i : ℕ) → get_or s i 0 < 256) where
   fits at (read k kind proc room) = omega (arith, bytes (at + 2))
   fits at (add k kind proc delta room) = (omega (arith, bytes (at + 2)), omega (arith, number_below (at + 3)))
 
-  pub found_fits : (at : ℕ) {e : Event} {next : ℕ} → cut_at s at ≡ Found e next → EventFits e
+  pub found_fits : (at : ℕ) {e : Event} {next : ℕ} → cut_at s at ≡ whole_record e next → EventFits e
   found_fits at h = fits at (found_whole s at h).0
 
   taken : (at : ℕ) {e : Event} → Whole s at e → take (length (bytes_of e)) (drop at s) ≡ bytes_of e
@@ -114,7 +112,7 @@ module _ (s : List ℕ) (bytes : (i : ℕ) → get_or s i 0 < 256) where
       let four : four_bytes d ≡ from s (at + 3) 4 = ap four_bytes (sym delta) ∙ bytes_of_number (at + 3) room' ∙ take_from s (at + 3) 4 room' in
       rw four (take_from s at 7 room ∙ simp (add_assoc, k, kind, proc))
 
-  pub read_writes_back : (at : ℕ) {e : Event} {next : ℕ} → cut_at s at ≡ Found e next
+  pub read_writes_back : (at : ℕ) {e : Event} {next : ℕ} → cut_at s at ≡ whole_record e next
       → (take (length (bytes_of e)) (drop at s) ≡ bytes_of e) × (next ≡ at + length (bytes_of e))
   read_writes_back at h = (taken at (found_whole s at h).0, (found_whole s at h).1)
 
@@ -125,10 +123,13 @@ cuts_one p q = p.is ∙ sym q.is
 
 pub written_injective : (a b : Written) → written_answer a ≡ written_answer b → a ≡ b
 unfolding written_answer
-written_injective (Laid j) (Laid k) h = ap Laid (ap (λ (x : Answer). x.place) h)
-written_injective (NoRoom j) (NoRoom k) h = ap NoRoom (ap (λ (x : Answer). x.place) h)
-written_injective (Laid j) (NoRoom k) h = absurd (omega (arith, ap (λ (x : Answer). x.number) h))
-written_injective (NoRoom j) (Laid k) h = absurd (omega (arith, ap (λ (x : Answer). x.number) h))
+written_injective (Ok j) (Ok k) h = ap Ok (ap (λ (x : Answer). x.place) h)
+written_injective (Ok j) (Err r) h = absurd (omega (arith, number_positive r.refusal, ap (λ (x : Answer). x.number) h))
+written_injective (Err r) (Ok k) h = absurd (omega (arith, number_positive r.refusal, ap (λ (x : Answer). x.number) h))
+written_injective (Err r) (Err r') h =
+    let refusal = number_one r.refusal r'.refusal (ap (λ (x : Answer). x.number) h) in
+    let place = ap (λ (x : Answer). x.place) h in
+    λ i. Err (record { refusal = refusal i; place = place i })
 
 pub writes_one : {e : Event} {before after after' : List ℕ} {a b : Written} → Writes e before after a → Writes e before after' b
     → (a ≡ b) × (after ≡ after')
@@ -138,23 +139,23 @@ writes_one {a = a} {b = b} p q = (written_injective a b (p.answer ∙ sym q.answ
 
 -- with room: what is answered, and the bytes laid before those that stay
 pub lays : {e : Event} {before after : List ℕ} {r : Written} → length (bytes_of e) ≤ length before → Writes e before after r
-    → (r ≡ Laid (length (bytes_of e))) × (after ≡ bytes_of e ++ drop (length (bytes_of e)) before)
+    → (r ≡ Ok (length (bytes_of e))) × (after ≡ bytes_of e ++ drop (length (bytes_of e)) before)
 unfolding write_answer write_buffer written_answer
 lays {e} {before} {after} {r} room w =
     let fits = le-leb (length (bytes_of e)) (length before) room in
-    (written_injective r (Laid (length (bytes_of e))) (w.answer ∙ simp fits), w.buffer ∙ simp fits)
+    (written_injective r (Ok (length (bytes_of e))) (w.answer ∙ simp fits), w.buffer ∙ simp fits)
 
 -- what `write` leaves in a buffer with room is found by `cut_at`, and the next place is what `write` answered
 pub written_is_found : {e : Event} {before after : List ℕ} {r : Written} {c : Cut} → EventFits e → length (bytes_of e) ≤ length before
-    → Writes e before after r → Cuts after 0 c → (r ≡ Laid (length (bytes_of e))) × (c ≡ Found e (length (bytes_of e)))
+    → Writes e before after r → Cuts after 0 c → (r ≡ Ok (length (bytes_of e))) × (c ≡ whole_record e (length (bytes_of e)))
 written_is_found {e} {before} fits room w cut =
     let there = written_reads_back [] (drop (length (bytes_of e)) before) e fits in
     ((lays room w).0, rw (lays room w).1 at cut.is ∙ simp zero-add at there)
 
 -- an event that `cut_at` found, written into any buffer with room: the recording's bytes from its place to the next, and the others stay
-pub found_is_written : (s : List ℕ) → ((i : ℕ) → get_or s i 0 < 256) → {at next : ℕ} {e : Event} → Cuts s at (Found e next)
+pub found_is_written : (s : List ℕ) → ((i : ℕ) → get_or s i 0 < 256) → {at next : ℕ} {e : Event} → Cuts s at (whole_record e next)
     → {before after : List ℕ} {r : Written} → next - at ≤ length before → Writes e before after r
-    → (r ≡ Laid (next - at)) × (take (next - at) after ≡ take (next - at) (drop at s)) × (drop (next - at) after ≡ drop (next - at) before)
+    → (r ≡ Ok (next - at)) × (take (next - at) after ≡ take (next - at) (drop at s)) × (drop (next - at) after ≡ drop (next - at) before)
 found_is_written s bytes {at} {next} {e} cut {before} {after} {r} room w =
     let found = read_writes_back s bytes at (sym cut.is) in
     let long : next - at ≡ length (bytes_of e) = omega (arith, found.1) in

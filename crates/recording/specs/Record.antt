@@ -1,10 +1,12 @@
 -- One record of a recording: its bytes, and what reading at a place finds.
-use Rattle.std.specs.Prelude.{ℕ, ◌+◌, ◌-◌, ◌^◌, ◌≤◌, ◌<◌, ◌≡◌, Bool, cond, ◌&&◌, ◌||◌, List, [], ◌∷◌, length, get_or, leb, eqb}
+use Rattle.std.specs.Prelude.{ℕ, ◌+◌, ◌-◌, ◌^◌, ◌≤◌, ◌<◌, ◌≡◌, Bool, cond, ◌&&◌, ◌||◌, List, [], ◌∷◌, length, get_or, leb, eqb, Option, Some, None, Result, Ok, Err}
+use Rattle.refusals.specs.Table.{number_of}
+use Rattle.refusals.specs.declared.Refused.{Refused}
+use Rattle.refusals.specs.declared.Refusal.TheVariants.{BrokenRecord}
 use Rattle.recording.specs.Numbers.{four_bytes, number_at}
 use Rattle.recording.specs.declared.Event.{Event}
 use Rattle.recording.specs.declared.Event.TheVariants.{Step, Read, Add}
-use Rattle.recording.specs.declared.Cut.{Cut}
-use Rattle.recording.specs.declared.Cut.TheVariants.{Found, Broken, End}
+use Rattle.recording.specs.declared.Found.{Found}
 
 -- An answer in the table's numbers: a refusal number, or 0, and a place.
 pub record Answer : Type 0 where
@@ -38,19 +40,32 @@ event_at s at =
     (cond (eqb (get_or s (at + 1) 0) 2) (Read (get_or s (at + 2) 0))
     (Add (get_or s (at + 2) 0) (number_at s (at + 3))))
 
+-- what stands at a place: a whole record, its event with the place of the next; no more bytes; or a record that rule 6 refuses
+abbrev pub Cut : Type 0
+Cut = Result (Option Found) Refused
+
+abbrev pub whole_record : Event → ℕ → Cut
+whole_record e next = Ok (Some (record { event = e; next = next }))
+
+abbrev pub no_more : Cut
+no_more = Ok None
+
+abbrev pub broken_record : ℕ → Cut
+broken_record at = Err (record { refusal = BrokenRecord; place = at })
+
 -- What reading at a place finds: "with no bytes left, or with a place beyond the lent bytes", the end; a whole record, its event and the
 -- place of the next; or a record that rule 6 refuses.
 unfoldable pub cut_at : List ℕ → ℕ → Cut
 cut_at s at =
-    cond (leb (length s) at) End
-    (cond (whole s at) (Found (event_at s at) (at + 1 + get_or s at 0))
-    (Broken at))
+    cond (leb (length s) at) no_more
+    (cond (whole s at) (whole_record (event_at s at) (at + 1 + get_or s at 0))
+    (broken_record at))
 
 -- the tabled number and place for each case: the next place, "6 with that record's offset", the end
 unfoldable pub cut_answer : Cut → Answer
-cut_answer (Found e next) = record { number = 0; place = next }
-cut_answer (Broken at) = record { number = 6; place = at }
-cut_answer End = record { number = 0; place = 0 }
+cut_answer (Ok (Some found)) = record { number = 0; place = found.next }
+cut_answer (Ok None) = record { number = 0; place = 0 }
+cut_answer (Err refused) = record { number = number_of refused.refusal; place = refused.place }
 
 -- The answer to reading at a place, in those numbers: "with no bytes left, or with a place beyond the lent bytes", the end; for a record that
 -- rule 6 does not refuse the next place; else "6 with that record's offset".
@@ -62,9 +77,9 @@ read_answer s at =
 
 -- the next place lies beyond this one and inside the bytes
 unfoldable pub next_inside : ℕ → ℕ → Cut → Type 0
-next_inside at len (Found e next) = (at + 3 ≤ next) × (next ≤ len)
-next_inside at len (Broken place) = place ≤ len
-next_inside at len End = len ≤ at
+next_inside at len (Ok (Some found)) = (at + 3 ≤ found.next) × (found.next ≤ len)
+next_inside at len (Ok None) = len ≤ at
+next_inside at len (Err refused) = refused.place ≤ len
 
 -- what the cut promises: its answer in the table's numbers, the case with its event, and that the next place lies inside
 pub record Cuts (s : List ℕ) (at : ℕ) (r : Cut) : Type 0 where

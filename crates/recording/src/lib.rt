@@ -1,9 +1,12 @@
 // One record of a recording, read at a place and written at the front of a buffer.
 #![tactic(auto)]
 
-ghost use Rattle.std.specs.Prelude.{◌+◌, ◌*◌, ◌^◌, [], ◌∷◌, ◌≡◌};
+ghost use Rattle.std.specs.Prelude.{◌+◌, ◌*◌, ◌^◌, ◌≤◌, [], ◌∷◌, ◌≡◌, length};
+ghost use Rattle.recording.specs.Numbers.{number_at};
 ghost use Rattle.recording.specs.Record.{Cuts, bytes_of};
 ghost use Rattle.recording.specs.Written.{Writes};
+
+use refusals::{Refusal, Refused};
 
 // The longest recording that is taken, the highest tree, where the first record stands, and the most operations.
 pub const LONGEST_RECORDING: usize = 65536;
@@ -27,112 +30,85 @@ pub enum Event {
     Add(u8, u32),
 }
 
-// The tree that a recording is of: its height, and its shape by number.
+// The tree that a recording is of: its height, and its shape by number, since `rules::refusal` answers for every number.
 #[derive(Clone, Copy)]
 pub struct Form {
     pub height: u32,
     pub shape: u8,
 }
 
-// What stands at a place: an event and the next place, a record that rule 6 refuses, or the end.
+// A whole record: its event, and the place behind it.
 #[derive(Clone, Copy)]
-pub enum Cut {
-    Found(Event, usize),
-    Broken(usize),
-    End,
-}
-
-// What the writer did: the bytes laid, or the bytes needed.
-#[derive(Clone, Copy)]
-pub enum Written {
-    Laid(usize),
-    NoRoom(usize),
-}
-
-fn wide(x: u8) -> u32
-    ensures { result ≡ x }
-{
-    x as u32
+pub struct Found {
+    pub event: Event,
+    pub next: usize,
 }
 
 // The number in four bytes, highest first.
 pub fn number(a: u8, b: u8, c: u8, d: u8) -> u32
     ensures { result ≡ a * 2 ^ 24 + b * 2 ^ 16 + c * 2 ^ 8 + d }
 {
-    wide(a) * 16777216 + wide(b) * 65536 + wide(c) * 256 + wide(d)
+    u32::from_be_bytes([a, b, c, d])
 }
 
-// What stands at a place of a recording.
-pub fn cut_at(s: &[u8], at: usize) -> Cut
+// The number in the four bytes from a place on.
+pub fn number_at(s: &[u8], at: usize) -> u32
+    requires { at + 4 ≤ length s.now }
+    ensures { result ≡ number_at s.now at }
+{
+    number(s[at], s[at + 1], s[at + 2], s[at + 3])
+}
+
+// What stands at a place of a recording: a whole record, no more bytes, or a record that rule 6 refuses.
+pub fn cut_at(s: &[u8], at: usize) -> Result<Option<Found>, Refused>
     ensures { Cuts s.now at result }
 {
     if s.len() <= at {
-        return Cut::End;
+        return Ok(None);
     }
+    let broken = Refused {
+        refusal: Refusal::BrokenRecord,
+        place: at,
+    };
     let left = s.len() - at;
     if left < 3 {
-        return Cut::Broken(at);
+        return Err(broken);
     }
-    let k = s[at];
-    let kind = s[at + 1];
     let p = s[at + 2];
-    if k == 2 {
-        if kind == 1 {
-            return Cut::Found(Event::Step(p), at + 3);
-        }
-        if kind == 2 {
-            return Cut::Found(Event::Read(p), at + 3);
-        }
-        return Cut::Broken(at);
-    }
-    if k != 6 {
-        return Cut::Broken(at);
-    }
-    if kind != 3 {
-        return Cut::Broken(at);
-    }
-    if left < 7 {
-        return Cut::Broken(at);
-    }
-    let d = number(s[at + 3], s[at + 4], s[at + 5], s[at + 6]);
-    Cut::Found(Event::Add(p, d), at + 7)
+    let (event, next) = match (s[at], s[at + 1]) {
+        (2, 1) => (Event::Step(p), at + 3),
+        (2, 2) => (Event::Read(p), at + 3),
+        (6, 3) if 7 <= left => (Event::Add(p, number_at(s, at + 3)), at + 7),
+        _ => return Err(broken),
+    };
+    Ok(Some(Found { event, next }))
 }
 
-// Any event whose bytes are 2, the kind and the process.
-fn lay_short(buf: &mut [u8], kind: u8, p: u8) -> Written
-    ensures { (e : Event) → bytes_of e ≡ 2 ∷ kind ∷ p ∷ [] → Writes e buf.old buf.new result }
+// Any event with these bytes.
+fn lay(buf: &mut [u8], bytes: &[u8]) -> Result<usize, Refused>
+    ensures { (e : Event) → bytes_of e ≡ bytes.now → Writes e buf.old buf.new result }
 {
-    if buf.len() < 3 {
-        return Written::NoRoom(3);
+    let needed = bytes.len();
+    if buf.len() < needed {
+        return Err(Refused {
+            refusal: Refusal::NoRoom,
+            place: needed,
+        });
     }
-    buf[0] = 2;
-    buf[1] = kind;
-    buf[2] = p;
-    Written::Laid(3)
+    buf[..needed].copy_from_slice(bytes);
+    Ok(needed)
 }
 
-fn lay_long(buf: &mut [u8], p: u8, d: u32) -> Written
-    ensures { Writes (Event.Add p d) buf.old buf.new result }
-{
-    if buf.len() < 7 {
-        return Written::NoRoom(7);
-    }
-    buf[0] = 6;
-    buf[1] = 3;
-    buf[2] = p;
-    buf[3] = (d / 16777216 % 256) as u8;
-    buf[4] = (d / 65536 % 256) as u8;
-    buf[5] = (d / 256 % 256) as u8;
-    buf[6] = (d % 256) as u8;
-    Written::Laid(7)
-}
-
-pub fn write(buf: &mut [u8], e: Event) -> Written
+// The event at the front of the buffer, and how many bytes that took; or how many it needs.
+pub fn write(buf: &mut [u8], e: Event) -> Result<usize, Refused>
     ensures { Writes e buf.old buf.new result }
 {
     match e {
-        Event::Step(p) => lay_short(buf, 1, p),
-        Event::Read(p) => lay_short(buf, 2, p),
-        Event::Add(p, d) => lay_long(buf, p, d),
+        Event::Step(p) => lay(buf, &[2, 1, p]),
+        Event::Read(p) => lay(buf, &[2, 2, p]),
+        Event::Add(p, d) => {
+            let [a, b, c, d] = d.to_be_bytes();
+            lay(buf, &[6, 3, p, a, b, c, d])
+        }
     }
 }

@@ -1,32 +1,28 @@
 -- What a pass over a drawer keeps from one recording to the next.
-use Rattle.std.specs.Prelude.{ℕ, ◌≤◌, ◌<◌, ◌≡◌}
+use Rattle.std.specs.Prelude.{ℕ, ◌+◌, ◌≤◌, ◌<◌, ◌≡◌, Result, OnOk}
 use Rattle.replay_drawer.specs.declared.Held.{Held}
-use Rattle.replay_drawer.specs.declared.Here.{Here}
-use Rattle.replay_drawer.specs.declared.Turn.{Turn}
-use Rattle.replay_drawer.specs.declared.Turn.TheVariants.{On, Fails, Unread, Unwritten}
+use Rattle.replay_drawer.specs.declared.Pass.{Pass}
+use Rattle.replay_drawer.specs.declared.Stop.{Stop}
 
 -- what a window of so many bytes holds begins at a place or before it
 pub record Holds (room at : ℕ) (h : Held) : Type 0 where
   pub begins : h.from ≤ at
   pub within : h.size ≤ room
 
--- a pass over a drawer of so many bytes
-pub record Goes (size : ℕ) (h : Here) : Type 0 where
-  pub short : size ≤ 16777216
-  pub inside : h.at ≤ size
-  pub few : h.number ≤ h.at
-  pub part : Holds 131072 h.at h.held
+-- a pass over a drawer
+pub record Goes (p : Pass) : Type 0 where
+  pub short : p.size ≤ 16777216
+  pub inside : p.at ≤ p.size
+  pub few : p.number ≤ p.at
+  pub part : Holds 131072 p.at p.held
 
--- the pass is further on, and has room for one text more
-unfoldable pub Turns : ℕ → ℕ → Turn → Type 0
-Turns size at (On h) = Goes size h × (h.waits ≤ 47024) × (at < h.at)
-Turns size at Fails = Unit {0}
-Turns size at Unread = Unit {0}
-Turns size at Unwritten = Unit {0}
+-- a recording more is printed
+pub record Prints (p q : Pass) (r : Result (Unit {0}) Stop) : Type 0 where
+  pub same : (q.at ≡ p.at) × (q.size ≡ p.size)
+  pub part : Holds 131072 p.at q.held
+  pub next : OnOk r (q.number ≡ p.number + 1)
 
--- the pass is where it was, and has room for one text more
-unfoldable pub Makes : Here → Turn → Type 0
-Makes here (On h) = (h.at ≡ here.at) × (h.number ≡ here.number) × (h.held ≡ here.held) × (h.waits ≤ 47024)
-Makes here Fails = ⊥
-Makes here Unread = ⊥
-Makes here Unwritten = Unit {0}
+-- the pass is further on
+pub record Turns (p q : Pass) (r : Result (Unit {0}) Stop) : Type 0 where
+  pub same : q.size ≡ p.size
+  pub further : OnOk r (Goes q × (p.at < q.at))

@@ -1,2 +1,3 @@
-pub mod Stores
 pub mod Laws
+pub mod Stores
+pub mod Front

@@ -2,14 +2,14 @@
 use Prim.Native.Nat.{ℕ, ◌-◌, ◌^◌, ◌≤◌, ◌<◌}
 use mathlib.Core.Path.{◌≡◌}
 use mathlib.Core.Bool.{Bool, true, false}
-use mathlib.Core.List.{List, [], ◌∷◌}
+use mathlib.Core.List.{List}
 use native.Mathlib.Omega.{arith}
 use lib.ListN.{length}
 use lib.Dec.{leb, ltb, eqb}
 use borrow.Author.Tests.{lt-ltb, le-ltb, eq-eqb, ne_eqb, le-leb, lt-leb}
 use Rattle.recording.specs.declared.Event.{Event}
 use Rattle.recording.specs.declared.Form.{Form}
-use Rattle.meaning.specs.Refusals.{◌when◌, first_of}
+use Rattle.meaning.specs.Refusals.{first_of}
 use Rattle.meaning.specs.Shape.{formed, highest_shape}
 use Rattle.meaning.specs.Layout.{version, follows, height, shape_of, longest_recording, highest_tree, too_short, other_version, too_long, false_length, no_height, unknown_shape, head_refusal}
 use Rattle.meaning.specs.Tree.{processes}
@@ -74,9 +74,17 @@ module _ (f : Form) (e : Event) (b : Bool) (m : ℕ) where
     inside? : leb (2 ^ f.height) (process_of e) ≡ false
     inside? = lt-leb (2 ^ f.height) (process_of e) inside
 
-    pub starts : is_start e ≡ true → first_of (8 when b ∷ 10 when leb most_operations m ∷ []) ≡ refusal_by (formed f) e b m
+    pub starts_busy : is_start e ≡ true → b ≡ true → 8 ≡ refusal_by (formed f) e b m
     unfolding refusal_by first_of processes
-    starts s = simp (inside?, s)
+    starts_busy s x = simp (inside?, s, x)
+
+    pub starts_full : is_start e ≡ true → b ≡ false → leb most_operations m ≡ true → 10 ≡ refusal_by (formed f) e b m
+    unfolding refusal_by first_of processes
+    starts_full s x y = simp (inside?, s, x, y)
+
+    pub starts : is_start e ≡ true → b ≡ false → leb most_operations m ≡ false → 0 ≡ refusal_by (formed f) e b m
+    unfolding refusal_by first_of processes
+    starts s x y = simp (inside?, s, x, y)
 
     pub steps : is_start e ≡ false → b ≡ true → 0 ≡ refusal_by (formed f) e b m
     unfolding refusal_by first_of processes

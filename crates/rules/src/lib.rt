@@ -1,40 +1,41 @@
 // The rules of a recording: its header, and each record by what the run keeps.
 #![tactic(auto)]
 
-ghost use Rattle.std.specs.Prelude.{◌^◌, ◌≤◌, ◌≡◌, [], ◌∷◌, length};
-ghost use Rattle.meaning.specs.Refusals.{◌when◌, first_of};
+ghost use Rattle.std.specs.Prelude.{◌^◌, ◌≤◌, ◌≡◌, length};
+ghost use Rattle.refusals.specs.Table.{number_told};
 ghost use Rattle.meaning.specs.Shape.{formed, highest_shape};
 ghost use Rattle.meaning.specs.Layout.{highest_tree, told, head_refusal, first_record};
 ghost use Rattle.meaning.specs.Run.{process_of, is_start, refusal_by};
 
 use recording::{
-    Event, FIRST_RECORD, Form, HIGHEST_TREE, LONGEST_RECORDING, MOST_OPERATIONS, number,
+    Event, FIRST_RECORD, Form, HIGHEST_TREE, LONGEST_RECORDING, MOST_OPERATIONS, number_at,
 };
+use refusals::Refusal;
 
-// The refusal of the header, or 0.
-pub fn header(s: &[u8]) -> u32
-    ensures { result ≡ head_refusal highest_shape s.now }
+// Refusals 1, 2, 4, 3 and 5, tried in that order.
+pub fn header(s: &[u8]) -> Result<(), Refusal>
+    ensures { number_told result ≡ head_refusal highest_shape s.now }
 {
     if s.len() < FIRST_RECORD {
-        return 1;
+        return Err(Refusal::TooShort);
     }
     if s[0] != 1 {
-        return 2;
+        return Err(Refusal::OtherVersion);
     }
     if LONGEST_RECORDING < s.len() {
-        return 4;
+        return Err(Refusal::TooLong);
     }
-    let follows = number(s[1], s[2], s[3], s[4]);
+    let follows = number_at(s, 1);
     if follows as usize != s.len() - 5 {
-        return 3;
+        return Err(Refusal::FalseLength);
     }
     if s[5] == 0 {
-        return 5;
+        return Err(Refusal::NoHeight);
     }
     if HIGHEST_TREE < s[5] {
-        return 5;
+        return Err(Refusal::NoHeight);
     }
-    0
+    Ok(())
 }
 
 // The form that the header tells: version 1 is shape 0.
@@ -48,19 +49,13 @@ pub fn form_of(s: &[u8]) -> Form
     }
 }
 
-fn wide(x: u8) -> usize
-    ensures { result ≡ x }
-{
-    x as usize
-}
-
 pub fn process_of(e: Event) -> usize
     ensures { result ≡ process_of e }
 {
     match e {
-        Event::Step(p) => wide(p),
-        Event::Read(p) => wide(p),
-        Event::Add(p, _) => wide(p),
+        Event::Step(p) => usize::from(p),
+        Event::Read(p) => usize::from(p),
+        Event::Add(p, _) => usize::from(p),
     }
 }
 
@@ -82,27 +77,19 @@ fn processes(h: u32) -> usize
     1usize << h
 }
 
-// x where a holds, otherwise y where b holds, otherwise 0.
-fn first_of(a: bool, x: u32, b: bool, y: u32) -> u32
-    ensures { result ≡ first_of (x when a ∷ y when b ∷ []) }
-{
-    if a {
-        return x;
-    }
-    if b { y } else { 0 }
-}
-
-// The refusal of a record, or 0.
-pub fn refusal(f: Form, e: Event, busy: bool, m: u32) -> u32
+// Refusals 7 to 10 of a record, by whether its process is busy and how many operations have started.
+pub fn refusal(f: Form, e: Event, busy: bool, m: u32) -> Result<(), Refusal>
     requires { f.height ≤ highest_tree }
-    ensures { result ≡ refusal_by (formed f) e busy m }
+    ensures { number_told result ≡ refusal_by (formed f) e busy m }
 {
     if processes(f.height) <= process_of(e) {
-        return 7;
+        return Err(Refusal::NoProcess);
     }
     let full = MOST_OPERATIONS <= m;
-    if is_start(e) {
-        return first_of(busy, 8, full, 10);
+    match (is_start(e), busy, full) {
+        (true, true, _) => Err(Refusal::Busy),
+        (true, _, true) => Err(Refusal::Full),
+        (false, false, _) => Err(Refusal::Idle),
+        _ => Ok(()),
     }
-    if busy { 0 } else { 9 }
 }

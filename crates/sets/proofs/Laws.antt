@@ -1,41 +1,32 @@
 -- Laws of the sets of processes: a number keeps one set, what `with` and `without` leave in place, and how a count changes with them.
-use Prim.Native.Nat.{ℕ, zero, suc, ◌+◌, ◌-◌, ◌/◌, ◌%◌, ◌^◌, ◌≤◌, ◌<◌}
-use mathlib.Core.Bool.{Bool, true, false, not, cond, or-true, or-false, and-true, and-false, true≢false}
+use Prim.Native.Nat.{ℕ, zero, suc, ◌+◌, ◌^◌, ◌≤◌, ◌<◌}
+use mathlib.Core.Bool.{Bool, true, false, cond, or-true, or-false, and-true, and-false}
 use mathlib.Core.Path.{◌≡◌, refl, sym, ap, ap₂, ◌∙◌, fun_ext}
 use native.Mathlib.Decide.{ℕ_discrete, le_ind}
-use native.Mathlib.Nat.{pow-suc, zero-div, div-eq_of_lt, sub-add_cancel, lt_of_not-le}
 use native.Mathlib.Omega.{arith}
-use borrow.Author.Tests.{eq-eqb, ne_eqb, lt-ltb, le-ltb, not-true}
+use borrow.Author.Tests.{eq-eqb, ne_eqb, lt-ltb, le-ltb}
 use lib.Dec.{eqb}
-use lib.Pow.{pow_mono}
+use Rattle.std.specs.Int.{bit_at}
+use Rattle.std.proofs.lemmas.Bool.Decides.{nat_tests}
+use Rattle.std.proofs.lemmas.Nat.Bits.{same_from_bits_below, bit_at-lt, bit_at-zero, bit_at_above}
 use Rattle.sets.specs.Processes.{nobody, with, without, count_below, is_in}
-use Rattle.sets.proofs.Digits.{rest, unit, flips, stays, holds}
 
 -- ---- numbers as sets
 
-same_digits : (k a b : ℕ) → a < 2 ^ k → b < 2 ^ k → is_in a ≡ is_in b → a ≡ b
-same_digits zero a b h l e = omega arith
-same_digits (suc k) a b h l e =
-    let w = pow-suc 2 k in
-    let high : a / 2 ≡ b / 2 = same_digits k (a / 2) (b / 2) (omega arith) (omega arith) (fun_ext (λ q. sym (rest a q) ∙ ap (λ f. f (suc q)) e ∙ rest b q)) in
-    let low : a % 2 ≡ b % 2 = sym (unit a) ∙ ap (λ f. cond (f 0) 1 0) e ∙ unit b in
-    omega arith
+same_bit : (x y : ℕ) → x < 2 → y < 2 → eqb x 1 ≡ eqb y 1 → x ≡ y
+same_bit x y h l e = grind (arith, nat_tests)
 
 pub same_set : (a b : ℕ) → a < 2 ^ 64 → b < 2 ^ 64 → is_in a ≡ is_in b → a ≡ b
-same_set = same_digits 64
+unfolding is_in
+same_set a b h l e = same_from_bits_below 64 a b h l (λ q _. same_bit (bit_at a q) (bit_at b q) (bit_at-lt a q) (bit_at-lt b q) (ap (λ f. f q) e))
 
 pub is_in_empty : is_in 0 ≡ nobody
 unfolding is_in nobody
-is_in_empty = fun_ext (λ q. rw zero-div)
+is_in_empty = fun_ext (λ q. ap (λ x. eqb x 1) (bit_at-zero q))
 
 pub is_in_beyond : (b p : ℕ) → b < 2 ^ 64 → 64 ≤ p → is_in b p ≡ false
 unfolding is_in
-is_in_beyond b p h l =
-    let below : b < 2 ^ p = omega (arith, pow_mono l) in
-    ap (λ (x : ℕ). eqb (x % 2) 1) (div-eq_of_lt below)
-
-pub is_in-below : (b p : ℕ) → b < 2 ^ 64 → is_in b p ≡ true → p < 64
-is_in-below b p h e = lt_of_not-le (λ l. true≢false (sym e ∙ is_in_beyond b p h l))
+is_in_beyond b p h l = ap (λ x. eqb x 1) (bit_at_above b 64 p h l)
 
 -- ---- one process more, one less
 
@@ -72,17 +63,6 @@ is_with p s t h e f = at_all p t (with p s) (e ∙ sym (with_same p s h)) (λ q 
 
 pub is_without : (p : ℕ) (s t : ℕ → Bool) → t p ≡ false → ((q : ℕ) → (q ≡ p → ⊥) → t q ≡ s q) → t ≡ without p s
 is_without p s t e f = at_all p t (without p s) (e ∙ sym (without_same p s)) (λ q n. f q n ∙ sym (without_other p q s n))
-
--- the number with p put in, and with p cut: the second is the first read backwards
-pub is_in-with : (p a : ℕ) → p < 64 → is_in a p ≡ false → is_in (a + 2 ^ p) ≡ with p (is_in a)
-is_in-with p a h e = is_with p (is_in a) (is_in (a + 2 ^ p)) h (flips p a ∙ ap not e) (λ q n. stays p a q e n)
-
-pub is_in-without : (p b : ℕ) → is_in b p ≡ true → is_in (b - 2 ^ p) ≡ without p (is_in b)
-is_in-without p b e =
-    let a = b - 2 ^ p in
-    let back : a + 2 ^ p ≡ b = sub-add_cancel (holds p b e) in
-    let out : is_in a p ≡ false = not-true _ (sym (flips p a) ∙ ap (λ (x : ℕ). is_in x p) back ∙ e) in
-    is_without p (is_in b) (is_in a) out (λ q n. sym (stays p a q out n) ∙ ap (λ (x : ℕ). is_in x q) back)
 
 -- ---- counts
 

@@ -13,30 +13,24 @@ pub fn empty() -> u64
 pub fn has(set: u64, p: usize) -> bool
     ensures { result ≡ is_in set p }
 {
-    if p < 64 { (set >> p) % 2 == 1 } else { false }
+    p < 64 && (set >> p) & 1 == 1
 }
 
 // A number that names no process changes nothing.
 pub fn put(set: u64, p: usize) -> u64
     ensures { is_in result ≡ with p (is_in set) }
 {
-    if 64 <= p {
-        return set;
-    }
-    if has(set, p) {
-        return set;
-    }
-    set + (1u64 << p)
+    if p < 64 { set | 1 << p } else { set }
 }
 
 pub fn cut(set: u64, p: usize) -> u64
     ensures { is_in result ≡ without p (is_in set) }
 {
-    if has(set, p) { set - (1u64 << p) } else { set }
+    if p < 64 { set & !(1 << p) } else { set }
 }
 
 pub fn count(set: u64) -> u32
     ensures { result ≡ count_below 64 (is_in set) }
 {
-    u64::count_ones(set)
+    set.count_ones()
 }

@@ -1,10 +1,7 @@
 -- `raise`: each turn raises the next number.
-use Prim.Native.Nat.{◌-◌}
-use Rattle.contention.proofs.Raised.{Raised}
+use Rattle.std.proofs.Common.{◌≡◌, max, ◌++◌, take, drop}
+use Rattle.std.specs.Prelude.{map}
 use Rattle.contention.proofs.raise.Given as goal
 
-abbrev pub invariant-loop-q : goal.invariant-loop-q
-invariant-loop-q l = Raised l.count l.initial.greatest l.greatest l.q
-
-abbrev pub decreases-loop-q : goal.decreases-loop-q
-decreases-loop-q l = 64 - l.q
+abbrev pub invariant-loop-g : goal.invariant-loop-g
+invariant-loop-g l = l.g-items ≡ map (λ x. max x l.count) (take l.g-index l.initial.g-items) ++ drop l.g-index l.initial.g-items

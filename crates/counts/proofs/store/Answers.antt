@@ -1,26 +1,17 @@
--- `store`: each turn stores the greater of the next two counts in the row; that of the node is still the one it was.
-use Rattle.arrays.specs.Arrays.{as_fun, as_rows}
-use Rattle.counts.proofs.Filled.{untouched, no_row, same_rows, more_row, all_row}
-use Rattle.counts.proofs.Stores.{node_stored_lem}
-use borrow.Author.Rules.{rules}
-use native.Mathlib.Omega.{arith}
+-- `store`: each turn stores the greater of the next two counts.
+use Rattle.std.proofs.Common.{◌≡◌, ◌∙◌, ℕ, ◌-◌, [], max, length, get_or, take, drop, ap₂, List, rules, arith}
+use Rattle.std.proofs.lemmas.List.{length-take-le, length-drop}
+use Rattle.arrays.specs.Arrays.{as_rows, as_fun}
+use Rattle.counts.proofs.Filled.{part_at, row_stored}
 use Rattle.counts.proofs.store.Goals as goal
 
-pub loop-q-init : goal.loop-q-init
-loop-q-init c = no_row _ _ _ _ _ (search rules) c.sixty_four_counts.ensures
-
-pub bounds-after-l-in-loop-q : goal.bounds-after-l-in-loop-q
-bounds-after-l-in-loop-q c = omega (arith, same_rows _ _ _ _ _ c.loop-q.invariant, c.loop-q.invariant.inside)
-
-pub bounds-after-l-in-loop-q-2 : goal.bounds-after-l-in-loop-q-2
-bounds-after-l-in-loop-q-2 c =
-    omega (arith, same_rows _ _ _ _ _ c.loop-q.invariant, c.loop-q.invariant.inside)
-
-pub loop-q-preserved : goal.loop-q-preserved
-unfolding as_fun as_rows
-loop-q-preserved c =
-    let w = c.loop-q.invariant in
-    more_row _ _ _ _ _ w (search rules) (search rules) (rw (← untouched _ _ _ _ w.row) c.larger.ensures)
-
 pub returns : goal.returns
-returns c written = node_stored_lem _ _ _ _ _ _ _ _ (all_row _ _ _ _ _ c.loop-q.invariant (search rules))
+unfolding as_rows as_fun
+returns c =
+    let a = c.args in
+    let row : List ℕ = get_or a.counts a.l [] in
+    let part : List ℕ = take (a.hi - a.lo) (drop a.lo row) in
+    let sized : length row ≡ 64 = search rules in
+    let whole : length part ≡ a.hi - a.lo = length-take-le _ _ (omega (arith, length-drop a.lo row)) in
+    row_stored a.lo a.hi a.l (λ q. max (as_rows a.counts a.l q) (as_rows a.read.now a.p q)) a.counts c.loop-i.x-items (search rules) (search rules) (omega arith) (omega arith)
+    (λ i h. c.loop-i.invariant.done i (omega arith) ∙ ap₂ max (part_at a.lo _ row i h) (part_at a.lo _ (get_or a.read.now a.p []) i h))

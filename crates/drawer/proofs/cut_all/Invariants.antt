@@ -1,11 +1,10 @@
--- `cut_all`. The loop's invariant: the pieces before the place are cut, counted, and their most bytes added. The measure is the bytes left.
-use Prim.Native.Nat.{◌-◌}
-use lib.ListN.{length}
+-- `cut_all`. The loop's invariant: the pieces before what is left are cut, counted, and their most bytes added. The measure is the bytes left.
+use Rattle.std.proofs.Common.{length}
 use Rattle.drawer.proofs.Passes.{CutTo}
 use Rattle.drawer.proofs.cut_all.Given as goal
 
-abbrev pub invariant-loop-at : goal.invariant-loop-at
-invariant-loop-at l = CutTo l.s l.at l.pieces l.most
+abbrev pub invariant-pieces : goal.invariant-pieces
+invariant-pieces l = CutTo l.s l.rest l.pieces.number l.pieces.most
 
-abbrev pub decreases-loop-at : goal.decreases-loop-at
-decreases-loop-at l = length l.s - l.at
+abbrev pub decreases-pieces : goal.decreases-pieces
+decreases-pieces l = length l.rest

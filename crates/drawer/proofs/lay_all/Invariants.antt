@@ -1,12 +1,13 @@
--- `lay_all`. The loop's invariant: the reports and marks of the pieces before the place are laid, and the arrays are as long as they were made.
--- The measure is the bytes left.
-use Prim.Native.Nat.{◌-◌}
-use lib.ListN.{length}
-use Rattle.drawer.proofs.Passes.{LaidTo, Lent}
+-- `lay_all`. The loop's invariant: the reports and marks of the pieces before what is left are laid, and there is room for any recording. The measure
+-- is the bytes left.
+use Rattle.std.proofs.Common.{length}
+use Rattle.keeping.specs.Keeping.{lent_to}
+use Rattle.engine.specs.Ends.{RoomForAny}
+use Rattle.drawer.proofs.Passes.{LaidTo}
 use Rattle.drawer.proofs.lay_all.Given as goal
 
-abbrev pub invariant-loop-at : goal.invariant-loop-at
-invariant-loop-at l = LaidTo l.s l.initial.out l.initial.marks l.out l.marks l.at l.laid l.marked × Lent l.read l.queue l.turns l.rows l.greatest
+abbrev pub invariant-pieces : goal.invariant-pieces
+invariant-pieces l = LaidTo l.s l.initial.out l.initial.marks l.rest l.out l.marks l.laid l.marked × RoomForAny (lent_to l.ledger)
 
-abbrev pub decreases-loop-at : goal.decreases-loop-at
-decreases-loop-at l = length l.s - l.at
+abbrev pub decreases-pieces : goal.decreases-pieces
+decreases-pieces l = length l.rest

@@ -1,13 +1,8 @@
 -- `needed` meets its contract: the bytes of a report are told by how its run ended.
 use mathlib.Core.Path.{sym, ◌∙◌}
-use Rattle.entries.proofs.Answers.{few_of_ends}
 use Rattle.drawer.proofs.Alone.{report_of_ends}
 use Rattle.drawer.proofs.needed.Goals as goal
 
-pub bytes_of-requires : goal.bytes_of-requires
-bytes_of-requires c =
-    few_of_ends c.alone-e.ensures
-
 pub returns : goal.returns
 returns c =
-    c.bytes_of.ensures ∙ sym (report_of_ends _ c.alone-e.ensures)
+    c.bytes_of.ensures ∙ sym (report_of_ends _ c.ends.ensures)

@@ -1,24 +1,22 @@
 -- `try_at` meets its contract: each way out is one of what a record comes to.
-use Rattle.engine.proofs.Tries.{tries_end, tries_broken, tries_refused, tries_step, tries_start}
-use native.Mathlib.Omega.{arith}
+use Rattle.std.proofs.Common.{rules}
+use Rattle.engine.proofs.Tries.{tries_end, tries_broken, tries_refused, tries_step, tries_read, tries_add}
 use Rattle.engine.proofs.try_at.Goals as goal
 
-pub returns-then-k-ne0 : goal.returns-then-k-ne0
-returns-then-k-ne0 c =
-    tries_refused _ _ _ _ _ _ _ _ _ _ _ c.cut_at.ensures c.in-Found.is c.process_of-p.ensures c.has.ensures c.refusal-k.ensures (λ z. omega (arith, c.if-k-ne0.true))
+pub returns-in_err-found : goal.returns-in_err-found
+returns-in_err-found c = search (rules, tries_broken)
 
-pub returns-in-End : goal.returns-in-End
-returns-in-End c =
-    tries_end _ _ _ _ _ _ c.cut_at.ensures c.in-End.is
+pub returns-in_default : goal.returns-in_default
+returns-in_default c = tries_end _ _ _ _ _ (rw c.in_default.is at c.in_ok-found.ensures)
 
-pub returns-in-Broken : goal.returns-in-Broken
-returns-in-Broken c =
-    tries_broken _ _ _ _ _ _ _ c.cut_at.ensures c.in-Broken.is
+pub returns-in-Err : goal.returns-in-Err
+returns-in-Err c = tries_refused _ _ _ _ _ _ _ _ (rw c.in-Some.is at c.in_ok-found.ensures) c.process_of-p.ensures c.has.ensures _ c.in-Err.ensures
 
-pub returns-then-is_start : goal.returns-then-is_start
-returns-then-is_start c =
-    tries_start _ _ _ _ _ _ _ _ _ _ _ c.cut_at.ensures c.in-Found.is c.process_of-p.ensures c.has.ensures c.refusal-k.ensures (omega (arith, c.if-k-ne0.false)) _ c.is_start.ensures _ _ c.if-is_start.true c.adds.ensures c.delta_of.ensures
+pub returns-in-Step : goal.returns-in-Step
+returns-in-Step c = tries_step _ _ _ _ _ _ _ _ (rw c.in-Some.is at c.in_ok-found.ensures) c.process_of-p.ensures c.has.ensures c.in_default-refusal.ensures _ c.in-Step.is
 
-pub returns-else-is_start : goal.returns-else-is_start
-returns-else-is_start c =
-    tries_step _ _ _ _ _ _ _ _ _ _ _ c.cut_at.ensures c.in-Found.is c.process_of-p.ensures c.has.ensures c.refusal-k.ensures (omega (arith, c.if-k-ne0.false)) _ c.is_start.ensures c.if-is_start.false
+pub returns-in-Read : goal.returns-in-Read
+returns-in-Read c = tries_read _ _ _ _ _ _ _ _ (rw c.in-Some.is at c.in_ok-found.ensures) c.process_of-p.ensures c.has.ensures c.in_default-refusal.ensures _ c.in-Read.is
+
+pub returns-in-Add : goal.returns-in-Add
+returns-in-Add c = tries_add _ _ _ _ _ _ _ _ (rw c.in-Some.is at c.in_ok-found.ensures) c.process_of-p.ensures c.has.ensures c.in_default-refusal.ensures _ _ c.in-Add.is

@@ -5,7 +5,7 @@ use Rattle.listing.proofs.Loop.{Walk}
 use Rattle.listing.proofs.list_in.Given as goal
 
 abbrev pub invariant-loop-j : goal.invariant-loop-j
-invariant-loop-j l = Walk l.initial.queue l.initial.turns l.initial.rows (as_fun l.count) l.waiting l.initial.rank l.queue l.turns l.rows l.rank l.kept l.j
+invariant-loop-j l = Walk l.initial.queue l.initial.rows (as_fun l.counts) l.waiting l.initial.rank l.queue l.rows l.rank l.kept l.j
 
 abbrev pub decreases-loop-j : goal.decreases-loop-j
 decreases-loop-j l = l.waiting - l.j

@@ -1,7 +1,8 @@
--- `wait` meets its contract: two stores inside their arrays.
-use native.Mathlib.Omega.{arith}
-use Rattle.listing.proofs.Laws.{stored_as}
+-- `wait` meets its contract: one store inside the array.
+use Rattle.listing.specs.Queue.{waiter_of}
+use Rattle.listing.proofs.Laws.{waiters_set}
 use Rattle.listing.proofs.wait.Goals as goal
 
 pub returns : goal.returns
-returns c = record { queue = stored_as _ _ _ _ c.requires.0 (omega arith); turns = stored_as _ _ _ _ c.requires.1 (omega arith) }
+unfolding waiter_of
+returns c = waiters_set _ _ _ c.requires.0

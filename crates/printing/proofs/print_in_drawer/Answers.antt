@@ -9,4 +9,4 @@ use Rattle.printing.proofs.print_in_drawer.Goals as goal
 
 pub returns : goal.returns
 returns c =
-    record { lays = lays_as (ap₂ (λ (a b : List ℕ). a ++ b) c.lay_heading-n.ensures.lays.front (print_front c.print-m.ensures)) (lays_then c.lay_text-next.ensures.lays c.lay_text.ensures.lays); upper_bound = search rules }
+    record { lays = lays_as (ap₂ (λ (a b : List ℕ). a ++ b) c.lay_heading-n.ensures.lays.front (print_front c.print-m.ensures)) (lays_then c.lay_word-next.ensures c.lay_word.ensures); upper_bound = search rules }

@@ -1,11 +1,7 @@
--- `taken_in`: a recording that is shorter is all that there is to take.
-use native.Mathlib.Omega.{arith}
-use mathlib.Core.Path.{sym}
-use lib.Seq.{take_all, length-take-le}
+-- `taken_in`: no more is taken than there is.
+use Rattle.std.proofs.Common.{◌≡◌, min, length, arith}
+use Rattle.std.proofs.lemmas.List.{take_min}
 use Rattle.printing.proofs.taken_in.Goals as goal
 
-pub returns-then-rec-most : goal.returns-then-rec-most
-returns-then-rec-most c = sym (take_all 65537 _ (omega arith))
-
-pub slice_bounds-result-end : goal.slice_bounds-result-end
-slice_bounds-result-end c = sym (length-take-le 65537 c.args.rec.now (omega arith))
+pub returns : goal.returns
+returns c = let e : c.min.result ≡ min 65537 (length c.args.rec.now) = omega arith in rw e (take_min 65537 _)

@@ -1,15 +1,17 @@
--- `write` meets its contract: each arm is its helper's, at the event that the pattern took apart.
+-- `write` meets its contract: each arm lays the bytes of the event that the pattern took apart.
 use mathlib.Core.Path.{ap}
+use Rattle.recording.specs.Numbers.{four_bytes}
 use Rattle.recording.specs.Record.{bytes_of}
 use Rattle.recording.proofs.write.Goals as goal
 
 pub returns-in-Step : goal.returns-in-Step
 unfolding bytes_of
-returns-in-Step c = c.lay_short.ensures _ (ap bytes_of c.in-Step.is)
+returns-in-Step c = c.lay.ensures _ (ap bytes_of c.in-Step.is)
 
 pub returns-in-Read : goal.returns-in-Read
 unfolding bytes_of
-returns-in-Read c = c.lay_short-in-Read.ensures _ (ap bytes_of c.in-Read.is)
+returns-in-Read c = c.lay-in-Read.ensures _ (ap bytes_of c.in-Read.is)
 
 pub returns-in-Add : goal.returns-in-Add
-returns-in-Add c = rw c.in-Add.is c.lay_long.ensures
+unfolding bytes_of four_bytes
+returns-in-Add c = c.lay-in-Add.ensures _ (rw c.to_be_bytes.ensures (ap bytes_of c.in-Add.is))

@@ -1,29 +1,13 @@
--- `lay_row`: five stores one after another are the row set.
-use lib.ListN.{length-set}
-use Rattle.rows.proofs.Stores.{row_stored}
+-- `lay_row`: five numbers laid one after another.
+use mathlib.Core.Path.{◌∙◌}
 use native.Mathlib.Omega.{arith}
+use Rattle.arrays.specs.Arrays.{as_fun}
+use Rattle.arrays.specs.Numbers.{numbers_in}
+use Rattle.rows.specs.Rows.{numbers_bytes}
+use Rattle.rows.proofs.Stores.{row_laid}
 use Rattle.rows.proofs.lay_row.Goals as goal
 
-pub bounds-rows-at-2 : goal.bounds-rows-at-2
-bounds-rows-at-2 c =
-    simp length-set (omega arith)
-
-pub bounds-rows-at-3 : goal.bounds-rows-at-3
-bounds-rows-at-3 c =
-    simp length-set (omega arith)
-
-pub bounds-rows-at-4 : goal.bounds-rows-at-4
-bounds-rows-at-4 c =
-    simp length-set (omega arith)
-
-pub bounds-rows-at-5 : goal.bounds-rows-at-5
-bounds-rows-at-5 c =
-    simp length-set (omega arith)
-
-pub shape_of-rows : goal.shape_of-rows
-shape_of-rows c =
-    simp length-set
-
 pub returns : goal.returns
+unfolding numbers_bytes as_fun numbers_in
 returns c =
-    row_stored _ _ _ _ _ _ _ c.requires.1
+    c.lay_number-5.ensures ∙ rw (c.lay_number-4.ensures, c.lay_number-3.ensures, c.lay_number-2.ensures, c.lay_number.ensures) (row_laid _ _ _ _ _ _ _ (omega (arith, c.requires)))

@@ -5,12 +5,12 @@ use Rattle.rules.proofs.process_of.Goals as goal
 
 pub returns-in-Step : goal.returns-in-Step
 unfolding process_of
-returns-in-Step c = c.wide.ensures ∙ sym (ap process_of c.in-Step.is)
+returns-in-Step c = c.from.ensures ∙ sym (ap process_of c.in-Step.is)
 
 pub returns-in-Read : goal.returns-in-Read
 unfolding process_of
-returns-in-Read c = c.wide-in-Read.ensures ∙ sym (ap process_of c.in-Read.is)
+returns-in-Read c = c.from-in-Read.ensures ∙ sym (ap process_of c.in-Read.is)
 
 pub returns-in-Add : goal.returns-in-Add
 unfolding process_of
-returns-in-Add c = c.wide-in-Add.ensures ∙ sym (ap process_of c.in-Add.is)
+returns-in-Add c = c.from-in-Add.ensures ∙ sym (ap process_of c.in-Add.is)

@@ -1,30 +1,17 @@
--- `put`: a number that names no process, or one that is in the set, changes nothing; else 2 ^ p is added where the digit p is 0.
-use Prim.Native.Nat.{◌<◌}
-use mathlib.Core.Bool.{false}
-use mathlib.Core.Path.{◌≡◌, refl, sym, ap, ◌∙◌}
-use native.Mathlib.Omega.{arith}
+-- `put`: setting the bit p sets that digit and no other.
+use mathlib.Core.Path.{sym, ap}
+use lib.Dec.{eqb}
+use Rattle.std.proofs.Common.{w64}
+use Rattle.std.proofs.lemmas.Nat.Bits.{bit_at_set_same, bit_at_set_other}
 use Rattle.sets.specs.Processes.{is_in}
-use Rattle.sets.proofs.Digits.{fits, weight}
-use Rattle.sets.proofs.Laws.{with_beyond, is_with, is_in-with}
+use Rattle.sets.proofs.Laws.{is_with, with_beyond}
 use Rattle.sets.proofs.put.Goals as goal
 
-pub returns-then-p-ge64 : goal.returns-then-p-ge64
-returns-then-p-ge64 c = sym (with_beyond _ _ (omega arith))
+pub returns-then-p-lt64 : goal.returns-then-p-lt64
+unfolding is_in
+returns-then-p-lt64 c =
+    let h = c.if-p-lt64.true in
+    is_with c.args.p _ _ h (ap (λ x. eqb x 1) (bit_at_set_same w64 c.args.set c.args.p h)) (λ q n. ap (λ x. eqb x 1) (bit_at_set_other w64 c.args.set c.args.p h q n))
 
-pub returns-then-has : goal.returns-then-has
-returns-then-has c = is_with _ _ _ (omega arith) (sym c.has.ensures ∙ c.if-has.true) (λ q n. refl)
-
-not_in : (c : goal.Else-has) → is_in c.args.set c.args.p ≡ false
-not_in c = sym c.has.ensures ∙ c.if-has.false
-
-below : (c : goal.Else-has) → c.args.p < 64
-below c = omega (arith, c.if-p-ge64.false)
-
-pub overflow_add-result : goal.overflow_add-result
-overflow_add-result c =
-    omega (arith, weight c.args.p (below c), fits 64 c.args.p c.args.set (below c) c.ranges.set.fits (not_in c))
-
-pub returns : goal.returns
-returns c =
-    let a = c.args in
-    ap is_in (omega (arith, weight a.p (below c))) ∙ is_in-with a.p a.set (below c) (not_in c)
+pub returns-else-p-lt64 : goal.returns-else-p-lt64
+returns-else-p-lt64 c = sym (with_beyond _ _ c.if-p-lt64.false)

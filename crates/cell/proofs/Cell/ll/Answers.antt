@@ -12,8 +12,8 @@ unfolding read_of load_linked state_of
 returns c =
     let a = c.args in
     record {
-      value = omega arith;
+      value = c.read.ensures;
       cell =
-          state_is _ _ (load_linked a.p (state_of a.self)) (omega arith)
-          (ap is_in (omega arith) ∙ c.put-after.ensures ∙ ap₂ (λ (p l : ℕ). with p (is_in l)) (omega arith) (omega arith));
+          state_is _ _ (load_linked a.p (state_of a.self.now)) (omega arith)
+          (ap is_in (omega arith) ∙ c.put-self.ensures ∙ ap₂ (λ (p l : ℕ). with p (is_in l)) (omega arith) (omega arith));
     }

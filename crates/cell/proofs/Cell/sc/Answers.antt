@@ -22,13 +22,13 @@ unfolding succeeds state_of
 returns-then-ok c =
     let a = c.args in
     let h = c.has-ok in
-    let ok : h.result ≡ is_in a.self.links a.p = h.ensures ∙ ap (is_in a.self.links) (omega arith) in
+    let ok : h.result ≡ is_in a.self.now.links a.p = h.ensures ∙ ap (is_in a.self.now.links) (omega arith) in
     let linked : h.result ≡ true = search (both, c.if-ok) in
     record {
       ok = ok;
       cell =
           state_is _ _ (record { value = a.u; linked = nobody }) (omega arith) (ap is_in (omega arith) ∙ c.empty-none.ensures)
-          ∙ sym (sc_succeeds a.u a.p (state_of a.self) (sym ok ∙ linked));
+          ∙ sym (sc_succeeds a.u a.p (state_of a.self.now) (sym ok ∙ linked));
     }
 
 pub returns-else-ok : goal.returns-else-ok
@@ -36,11 +36,11 @@ unfolding succeeds state_of
 returns-else-ok c =
     let a = c.args in
     let h = c.has-ok in
-    let ok : h.result ≡ is_in a.self.links a.p = h.ensures ∙ ap (is_in a.self.links) (omega arith) in
+    let ok : h.result ≡ is_in a.self.now.links a.p = h.ensures ∙ ap (is_in a.self.now.links) (omega arith) in
     let unlinked : h.result ≡ false = search (always, eq-eqb, c.if-ok) in
     record {
       ok = ok;
       cell =
-          state_is _ _ (state_of a.self) (omega arith) (ap is_in (omega arith))
-          ∙ sym (sc_fails a.u a.p (state_of a.self) (sym ok ∙ unlinked));
+          state_is _ _ (state_of a.self.now) (omega arith) (ap is_in (omega arith))
+          ∙ sym (sc_fails a.u a.p (state_of a.self.now) (sym ok ∙ unlinked));
     }

@@ -14,7 +14,7 @@ pub returns : goal.returns
 unfolding process_of effect onward at_step
 returns c f σ adds there first =
     let a = c.args in
-    let cell = c.ll-loaded.ensures.cell ∙ ap (load_linked _) c.cell_at.ensures in
+    let cell = c.ll.ensures.cell ∙ ap (load_linked _) c.cell-cell.ensures in
     let room : suc σ.position < width (formed f) a.x = omega (arith, first, width_is (formed f) a.x) in
     joined
     (link_is f a.p a.self a.x σ adds there first)

@@ -2,7 +2,7 @@
 use Rattle.std.proofs.Common.{◌≡◌, ℕ, suc, ◌+◌, ◌<◌, ◌≤◌, length, refl, ap, ◌∙◌, arith}
 use Rattle.cell.specs.Cell.{read_of}
 use Rattle.meaning.specs.Shape.{plus, formed}
-use Rattle.meaning.specs.Steps.{Process, cell_at, with_value, effect, onward, saw_children, at_step}
+use Rattle.meaning.specs.Steps.{Process, cell_at, effect, onward, saw_children, at_step}
 use Rattle.spots.specs.Spot.{width}
 use Rattle.spots.proofs.Laws.{width_is}
 use Rattle.spots.proofs.Shapes.{of_write}
@@ -12,7 +12,6 @@ use Rattle.machine.specs.Arrays.{memory_of, process_of}
 use Rattle.machine.specs.declared.Process.{Process as Record}
 use Rattle.machine.proofs.Known.{lawful, last_three, last_few, addition_past_1}
 use Rattle.machine.proofs.Joined.{joined}
-use Rattle.machine.proofs.Stored.{value_stored}
 use Rattle.machine.proofs.Tried.{adding, can_climb, there_at, look_is, stores_at, on_step}
 use Rattle.machine.proofs.Process.next.Goals.{After-spot_of-spot}
 use Rattle.machine.proofs.Process.next.Goals as goal
@@ -57,7 +56,7 @@ returns-then-i-groups c =
     joined
     (look_is a.f a.p a.self x σ adds there _ (omega (arith, c.if-i-eq0.false)) inside c.group_at.ensures)
     (on_step a.f a.p a.self x σ adds there room)
-    (record { process = ap (sees (a.self.step + 1) a.self) c.copy-seen.ensures; stored = refl; memory = refl })
+    (record { process = ap (sees (a.self.step + 1) a.self) c.read_group-next.ensures; stored = refl; memory = refl })
 
 pub store-requires : goal.store-requires
 store-requires c =
@@ -84,15 +83,13 @@ returns-in-2 c =
     let can = c.requires in
     let two : a.self.step ≡ 2 = c.in-2.is in
     let adds = addition_past_1 a.f a.p a.self can (omega (arith, two)) in
-    let add = c.wrapping_add_u32-sum in
-    let sum : add.result ≡ plus a.self.seen a.self.delta = omega (arith, add.ensures) in
     joined
     (of_write (formed a.f) a.p (process_of a.self) (lawful a.f can.known) adds two)
     (within_in _ 3 _ (omega (arith, two)) (last_three a.f can.known a.p a.self.adds adds))
     (record {
       process = refl;
       stored = refl;
-      memory = value_stored _ _ _ _ _ c.put_value.ensures ∙ rw c.leaf_of.ensures.is (ap (with_value _ _) sum);
+      memory = c.put_value.ensures ∙ rw c.leaf_of.ensures.is;
     })
 
 pub returns-in_default-2 : goal.returns-in_default-2

@@ -15,7 +15,7 @@ use Rattle.machine.proofs.Process.read.Goals as goal
 
 pub returns-then-self : goal.returns-then-self
 unfolding process_of memory_of as_fun effect onward saw_it at_step
-returns-then-self c sets =
+returns-then-self c =
     let a = c.args in
     let can = c.requires.can_step in
     let adds = c.if-self.true in
@@ -26,7 +26,7 @@ returns-then-self c sets =
 
 pub returns-else-self : goal.returns-else-self
 unfolding process_of memory_of as_fun effect onward saw_it at_step cell_at read_of root
-returns-else-self c sets =
+returns-else-self c =
     let a = c.args in
     let can = c.requires.can_step in
     let adds = c.if-self.false in

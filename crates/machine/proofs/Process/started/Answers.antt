@@ -9,8 +9,7 @@ set i adds delta r =
     record {
       delta = delta;
       seen = r.seen;
-      seen_left = r.seen_left;
-      seen_right = r.seen_right;
+      children = r.children;
       operation = i;
       step = 1;
       adds = adds;
@@ -19,4 +18,4 @@ set i adds delta r =
 
 pub returns : goal.returns
 unfolding idle_record started_record
-returns c = ap (set c.args.operation c.args.adds c.args.delta) c.idle-next.ensures
+returns c = ap (set c.args.operation c.args.adds c.args.delta) c.idle.ensures

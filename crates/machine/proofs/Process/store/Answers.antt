@@ -1,5 +1,5 @@
 -- `store`: the cell that `sc` gives is stored, its answer kept, and `after` says where the process goes on.
-use Rattle.std.proofs.Common.{◌≡◌, ℕ, ◌+◌, sym, ap, ◌∙◌, ap₂, arith}
+use Rattle.std.proofs.Common.{◌≡◌, ℕ, ◌+◌, sym, ap, ◌∙◌, ap₂}
 use Rattle.cell.specs.Cell.{State, succeeds, store_conditional}
 use Rattle.meaning.specs.Shape.{plus, formed}
 use Rattle.meaning.specs.Steps.{cell_at, with_cell, effect, passes_by, within, at_step}
@@ -22,9 +22,8 @@ after-requires c =
 pub returns : goal.returns
 unfolding effect plus seen_by process_of at_step
 returns c =
-    let did = c.sc-done in
-    let was = c.cell_at.ensures in
-    let add = c.wrapping_add_u32-sum in
+    let did = c.sc-ok in
+    let was = c.cell-cell.ensures in
     let a = c.args in
     let r = a.self in
     let F = formed a.f in
@@ -32,10 +31,9 @@ returns c =
     let adds = c.requires.adds_value in
     let there = c.requires.there in
     let sc = c.requires.stores in
-    let m = memory_of a.vals.now a.links.now in
-    let sum : add.result ≡ plus r.seen_left r.seen_right = omega (arith, add.ensures) in
-    let joint = sum ∙ sym ((lawful a.f known).sums a.f.height a.x (seen_by r.seen_left r.seen_right)) in
-    let ok : did.result.ok ≡ succeeds a.p (cell_at m a.x) = did.ensures.ok ∙ ap (succeeds a.p) was in
+    let m = memory_of a.memory.now in
+    let joint = sym ((lawful a.f known).sums a.f.height a.x (seen_by r.children)) in
+    let ok : did.result ≡ succeeds a.p (cell_at m a.x) = did.ensures.ok ∙ ap (succeeds a.p) was in
     let cell = did.ensures.cell ∙ ap₂ (λ (u : ℕ) (q : State). store_conditional u a.p q) joint was in
     let to = c.after.ensures a.p a.x there sc ∙ ap (leads a.f a.p r.step a.x a.spot) ok in
     joined
