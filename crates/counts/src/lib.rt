@@ -30,6 +30,7 @@ impl Counts<'_> {
         self.in_nodes[level]
     }
 
+    // `attempt` computes lo and hi; their bounds stand in three private clauses, of which a type would take nothing away.
     // The read of children at level l by process p, for the components lo to hi - 1.
     fn read_child(&mut self, p: usize, l: usize, lo: usize, hi: usize)
         requires p_bound { (p < 64) × (p < length self.old.read.now) }
@@ -105,7 +106,7 @@ fn read_row(read: &mut [[u16; 64]], p: usize, lo: usize, hi: usize, row: &[u16; 
 }
 
 // The successful SC of process p at a node at level l + 1, for the components lo to hi - 1: the six arrays by value, in and out,
-// a form that the scope names.
+// a form that docs/ARCHITECTURE.md lists.
 fn store(
     counts: [[u16; 64]; 6],
     read: &[[u16; 64]],

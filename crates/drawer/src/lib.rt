@@ -179,10 +179,7 @@ pub fn drawer(s: &[u8], out: &mut [u8], marks: &mut [u8]) -> Result<(), Refused>
     ensures within { IfErr result (λ r. r.place < 2 ^ 32) }
 {
     if 16777216 < s.len() {
-        return Err(Refused {
-            refusal: Refusal::DrawerTooLong,
-            place: 0,
-        });
+        return Err(Refused::from(Refusal::DrawerTooLong));
     }
     let pieces = cut_all(s)?;
     let need = measure(s, pieces, out.len());

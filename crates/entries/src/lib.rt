@@ -15,7 +15,7 @@ use placing::{Ledger, NONE_LISTED};
 use recording::{MOST_OPERATIONS, ROW_LENGTH};
 use refusals::{Refusal, Refused};
 
-// What report would answer with room enough.
+// What report would answer with room enough. `within` is a clause and no invariant of `Refused`: `recording::cut_at` answers for every place.
 pub fn check(s: &[u8]) -> Result<(), Refused>
     ensures answer { answer_of result ≡ check_answer s.now }
     ensures within { IfErr result (λ r. r.place < 2 ^ 32) }

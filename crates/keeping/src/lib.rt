@@ -142,6 +142,7 @@ impl Keeper for Ledger<'_> {
     }
 
     fn start(&mut self, m: u32, p: usize, adds: bool, busy: u64) {
+        // the byte that its row has
         let kind: u8 = if adds { 3 } else { 2 };
         rows::start_row(self.rows, m as usize, p as u8, kind);
         contention::raise(self.greatest, p, sets::count(busy) as u8);

@@ -51,6 +51,7 @@ impl<'a> Cursor<'a> {
         self.at = lay_word(self.out, at, word);
     }
 
+    // By hand: the digits are promised (`decimal`) in a buffer that is lent, whose other bytes are promised too.
     fn lay_decimal(&mut self, n: u32)
         requires { RoomFor self.old (length (decimal n)) }
         ensures same_buffer { self.new.out.ghost_name ≡ self.old.out.ghost_name }
@@ -85,7 +86,7 @@ impl<'a> Cursor<'a> {
         self.lay_decimal(n);
     }
 
-    // A space and the kind's word.
+    // A space and the kind's word; the kind is a byte of the report.
     fn lay_kind(&mut self, kind: u8)
         requires { RoomFor self.old 5 }
         ensures same_buffer { self.new.out.ghost_name ≡ self.old.out.ghost_name }

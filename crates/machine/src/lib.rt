@@ -28,6 +28,7 @@ pub struct Memory {
     pub links: [u64; 64],
 }
 
+// That x is an inner node stands in the clauses here and of `Process`: `next` computes it, and a type of its own would be no plainer.
 impl Memory {
     // What every run begins with.
     pub fn new() -> Memory
@@ -96,7 +97,7 @@ impl Children {
     }
 }
 
-// A step number of 0 is idle. It stays a number: `next` is the match over step numbers with a range that the project's scope names.
+// A step number of 0 is idle. It stays a number: `next` is a match over step numbers, a form that docs/ARCHITECTURE.md lists.
 // `stored` tells whether the latest access was an SC that succeeded.
 // `adds` stays beside `delta`: `started` and `next` answer for a read with any delta, which an Option excludes.
 #[derive(Clone, Copy)]
@@ -217,6 +218,7 @@ impl Process {
         let mut next = self;
         next.stored = false;
         let s = self.step;
+        // A match over step numbers with a range: a form that docs/ARCHITECTURE.md lists.
         match s {
             1 => self.read(f, p, memory),
             2 => {

@@ -19,7 +19,7 @@ pub const NONE_LISTED: Listed = Listed {
     rank: 0,
 };
 
-// What the replay keeps beside the memory, in arrays that it is lent: the counts, the queue of additions that wait to be listed, the rows, and the
+// What the replay keeps beside the memory, in arrays that it is lent (no heap): the counts, the queue of additions that wait to be listed, the rows, and the
 // greatest counts of busy processes.
 #[derive(Drop)]
 pub struct Ledger<'a> {

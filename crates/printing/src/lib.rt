@@ -29,7 +29,8 @@ pub fn print(rec: &[u8], out: &mut [u8; LONGEST_TEXT]) -> usize
     }
 }
 
-// The heading and the text of a recording of a drawer at a place of out, each by way of text; the place after them. The other bytes of out are promised too.
+// The heading and the text of a recording of a drawer at a place of out, each by way of text; the place after them. The other bytes of out are promised too,
+// and its six parameters are together in no other function.
 pub fn print_in_drawer(
     rec: &[u8],
     number: u32,

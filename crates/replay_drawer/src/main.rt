@@ -52,7 +52,8 @@ fn send(rt: &HostRuntime, text: &[u8]) -> Result<(), Stop> {
     rt.write_all(text).map_err(|_| Stop::Unwritten)
 }
 
-// Texts that wait to be written, in fixed memory (no heap): how many bytes they have, and where the next one is made.
+// Texts that wait to be written, in fixed memory (no heap): how many bytes they have, and where the next one is made. That they are few is no
+// invariant: between `put` and `make_room` they are not.
 #[derive(Drop)]
 struct Waiting<'a> {
     rt: &'a HostRuntime,
@@ -108,7 +109,8 @@ struct Held {
     size: usize,
 }
 
-// A pass over a drawer of so many bytes, by a window: at which cut it is, after how many recordings, and whether it prints their texts.
+// A pass over a drawer of so many bytes, by a window: at which cut it is, after how many recordings, and whether it prints their texts, by which the
+// two passes differ in one call.
 #[derive(Drop)]
 struct Pass<'a> {
     file: &'a mut File,

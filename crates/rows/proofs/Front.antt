@@ -32,10 +32,10 @@ module _ (rows : List Row) (m : ℕ) where
       })
 
   -- their report is that of m rows
-  pub front_report : (counter : ℕ) (buf : List ℕ) → m ≤ length rows
-      → laid_report (length (take m rows)) counter (numbers_of (take m rows)) buf ≡ laid_report m counter (numbers_of rows) buf
+  pub front_report : (n counter : ℕ) (buf : List ℕ) → m ≤ length rows → m ≡ n
+      → laid_report (length (take m rows)) counter (numbers_of (take m rows)) buf ≡ laid_report n counter (numbers_of rows) buf
   unfolding laid_report
-  front_report counter buf room = rw (length-take-le m rows room, front_bytes)
+  front_report n counter buf room all = rw (← all, length-take-le m rows room, front_bytes)
 
   module _ (items : List Row) (e : length items ≡ m) (room : m ≤ length rows) where
     within : (j : ℕ) → j / numbers_in_row < m → numbers_of (items ++ drop m rows) j ≡ numbers_of items j
@@ -49,13 +49,9 @@ module _ (rows : List Row) (m : ℕ) where
         let there : m + (i - m) ≡ i = omega arith in
         ap (λ (r : Row). get_or (numbers_in r) (j % numbers_in_row) 0) (get_or-append_right items (drop m rows) m i no_row e h ∙ get_or-drop m rows (i - m) no_row ∙ ap (λ (k : ℕ). get_or rows k no_row) there)
 
-    -- closed there, they are closed
-    pub front_closed : (greatest : ℕ → ℕ) → numbers_of items ≡ closed greatest (length (take m rows)) (numbers_of (take m rows)) → numbers_of (items ++ drop m rows) ≡ closed greatest m (numbers_of rows)
-    front_closed greatest told = closed_is greatest m (numbers_of rows) (numbers_of (items ++ drop m rows)) there (λ j n. else j n (ltb (j / numbers_in_row) m) refl)
+    front_and_rest : (greatest : ℕ → ℕ) → numbers_of items ≡ closed greatest m (numbers_of (take m rows)) → numbers_of (items ++ drop m rows) ≡ closed greatest m (numbers_of rows)
+    front_and_rest greatest before = closed_is greatest m (numbers_of rows) (numbers_of (items ++ drop m rows)) there (λ j n. else j n (ltb (j / numbers_in_row) m) refl)
       where
-        before : numbers_of items ≡ closed greatest m (numbers_of (take m rows))
-        before = rw (length-take-le m rows room) at told
-
         there : (i : ℕ) → i < m → numbers_of (items ++ drop m rows) (row_from i) ≡ closed_number greatest (numbers_of rows (row_from i))
         there i h =
             within (row_from i) (omega arith) ∙ ap (λ (g : ℕ → ℕ). g (row_from i)) before ∙ closed_first greatest m (numbers_of (take m rows)) i h
@@ -66,3 +62,10 @@ module _ (rows : List Row) (m : ℕ) where
             let h = ltb-true (j / numbers_in_row) m e in
             within j h ∙ ap (λ (g : ℕ → ℕ). g j) before ∙ closed_other greatest m (numbers_of (take m rows)) j n ∙ front_of j h
         else j n false e = beyond j (ltb-false (j / numbers_in_row) m e)
+
+  -- closed there, they are closed
+  pub front_closed : (items : List Row) (greatest : ℕ → ℕ) (n : ℕ) → length items ≡ length (take m rows) → m ≤ length rows → m ≡ n
+      → numbers_of items ≡ closed greatest (length (take m rows)) (numbers_of (take m rows)) → numbers_of (items ++ drop m rows) ≡ closed greatest n (numbers_of rows)
+  front_closed items greatest n sized room all told =
+      let whole = length-take-le m rows room in
+      rw (← all) (front_and_rest items (sized ∙ whole) room greatest (rw whole at told))

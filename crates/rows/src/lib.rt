@@ -23,7 +23,8 @@ pub fn start_row(rows: &mut [Row], i: usize, p: u8, kind: u8)
     };
 }
 
-// Row i after one more step; the last one puts the contention in. What it takes is together in no other function.
+// Row i after one more step; the last one puts the contention in. What it takes is together in no other
+// function; the contention is told also where it is not finished, since `stepped_numbers` is promised of both.
 pub fn step_row(
     rows: &mut [Row],
     i: usize,

@@ -1,8 +1,9 @@
 -- Laws of the sets of processes: a number keeps one set, what `with` and `without` leave in place, and how a count changes with them.
 use Prim.Native.Nat.{ℕ, zero, suc, ◌+◌, ◌^◌, ◌≤◌, ◌<◌}
-use mathlib.Core.Bool.{Bool, true, false, cond, or-true, or-false, and-true, and-false}
+use mathlib.Core.Bool.{Bool, true, false, cond, or-true, or-false, and-true, and-false, true≢false}
 use mathlib.Core.Path.{◌≡◌, refl, sym, ap, ap₂, ◌∙◌, fun_ext}
 use native.Mathlib.Decide.{ℕ_discrete, le_ind}
+use native.Mathlib.Nat.{lt_of_not-le}
 use native.Mathlib.Omega.{arith}
 use borrow.Author.Tests.{eq-eqb, ne_eqb, lt-ltb, le-ltb}
 use lib.Dec.{eqb}
@@ -27,6 +28,9 @@ is_in_empty = fun_ext (λ q. ap (λ x. eqb x 1) (bit_at-zero q))
 pub is_in_beyond : (b p : ℕ) → b < 2 ^ 64 → 64 ≤ p → is_in b p ≡ false
 unfolding is_in
 is_in_beyond b p h l = ap (λ x. eqb x 1) (bit_at_above b 64 p h l)
+
+pub is_in-below : (b p : ℕ) → b < 2 ^ 64 → is_in b p ≡ true → p < 64
+is_in-below b p h e = lt_of_not-le (λ l. true≢false (sym e ∙ is_in_beyond b p h l))
 
 -- ---- one process more, one less
 

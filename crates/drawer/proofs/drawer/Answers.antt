@@ -9,7 +9,7 @@ use Rattle.drawer.proofs.drawer.Goals as goal
 pub returns-then-s-gt16777216-clause-draws : goal.returns-then-s-gt16777216-clause-draws
 unfolding answer_of
 returns-then-s-gt16777216-clause-draws c =
-    too_long_lem _ _ _ (omega (arith, c.if-s-gt16777216.true))
+    rw c.from.ensures (too_long_lem _ _ _ (omega (arith, c.if-s-gt16777216.true)))
 
 pub measure-need-requires : goal.measure-need-requires
 measure-need-requires c =

@@ -34,4 +34,4 @@ lay_report-requires c =
 pub returns-clause-lays : goal.returns-clause-lays
 unfolding kept_of
 returns-clause-lays c =
-    piece_laid _ _ _ _ _ c.in_ok-a.ensures.ends c.requires.1 (c.lay_report.ensures ∙ front_report _ _ _ _ (rows_fit (goal.at.returns-clause-lays c).In_ok-a))
+    piece_laid _ _ _ _ _ c.in_ok-a.ensures.ends c.requires.1 (c.lay_report.ensures ∙ front_report _ _ _ _ _ (omega (arith, rows_fit (goal.at.returns-clause-lays c).In_ok-a)) (omega arith))

@@ -60,4 +60,4 @@ pub returns-clause-reports : goal.returns-clause-reports
 unfolding answer_of kept_of
 returns-clause-reports c =
     report_laid _ _ _ _ _ (same_told _ _ c.form_of.ensures) _ _ (head_told _ _ _ (sym c.requires.0) refl c.form_of.ensures) c.in_ok-e.ensures.ends (omega (arith, c.if-out-needed.false))
-    (c.lay_report.ensures ∙ front_report _ _ _ _ (rows_fit (goal.at.returns-clause-reports c).In_ok-e))
+    (c.lay_report.ensures ∙ front_report _ _ _ _ _ (omega (arith, rows_fit (goal.at.returns-clause-reports c).In_ok-e)) (omega arith))

@@ -1,5 +1,4 @@
 -- `close_rows`: the first m rows are closed, and so those of the array.
-use lib.Seq.{length-take-le}
 use native.Mathlib.Omega.{arith}
 use Rattle.rows.proofs.Front.{front_room, front_closed}
 use Rattle.keeping.proofs.close_rows.Goals as goal
@@ -8,4 +7,4 @@ pub close-requires : goal.close-requires
 close-requires c = front_room _ _ _ _ (omega arith) (omega arith) c.requires.1
 
 pub returns-clause-rows : goal.returns-clause-rows
-returns-clause-rows c = front_closed _ _ _ (omega (arith, length-take-le c.args.m c.args.rows.now c.requires.0)) c.requires.0 _ c.close.ensures
+returns-clause-rows c = front_closed _ _ _ _ _ c.close.auto.rows (omega arith) (omega arith) c.close.ensures
