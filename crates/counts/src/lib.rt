@@ -48,6 +48,7 @@ impl Counts<'_> {
         if l == 0 {
             read_row(read, p, lo, hi, written);
         } else {
+            // Of an element lent straight from the `&mut` array a proof knows nothing.
             let nodes: &[[u16; 64]; 6] = in_nodes;
             read_row(read, p, lo, hi, &nodes[l - 1]);
         }
@@ -75,6 +76,7 @@ impl Counts<'_> {
         }
         if stored {
             let hi = lo + leaves_under(2, l);
+            // Of the field itself, lent as a `&`, a proof would know nothing afterwards.
             let read = &mut *self.read;
             self.in_nodes = store(self.in_nodes, read, p, l, lo, hi);
         }
