@@ -50,7 +50,8 @@ pub fn node_of(h: u32, p: usize, level: u32) -> usize
     leaf_of(h, p) >> (level + 1)
 }
 
-// How many groups of children an attempt reads. A new shape answers here, in `group_at` and in `spot_of`.
+// How many groups of children an attempt reads. A new shape answers here, in `group_at` and in `spot_of`. That the shape is taken stands in clauses: a
+// type that says it would ask more of those who have a `Form`.
 pub fn groups(f: Form) -> u32
     requires { f.shape ≤ highest_shape }
     ensures { GroupsOf f result }

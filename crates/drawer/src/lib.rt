@@ -31,6 +31,7 @@ struct Pieces {
 pub fn size_within(left: usize, follows: u32) -> Option<usize>
     ensures { result ≡ cond (ltb left (5 + follows)) None (Some (5 + follows)) }
 {
+    // `as`, here and wherever a u32 becomes a usize: there is no `From`, and it is proved to lose nothing.
     let size = 5 + follows as usize;
     if left < size { None } else { Some(size) }
 }
@@ -54,7 +55,7 @@ fn first_piece(rest: &[u8]) -> Option<(&[u8], &[u8])>
     rest.split_at_checked(size)
 }
 
-// The bytes of a report at most, by the bytes of its piece.
+// The bytes of a report at most, by the bytes of its piece: 0 is a number of bytes here, where no report comes.
 fn most_of(size: usize) -> usize
     ensures { result ≡ most_of size }
 {
@@ -150,6 +151,7 @@ fn lay_all(s: &[u8], out: &mut [u8], marks: &mut [u8])
     requires { RoomForAll s.now out.old marks.old }
     ensures { LaysAll s.now out.old marks.old out.new marks.new }
 {
+    // Written out: a constructor would take the arrays that are made here, with a clause for each on whose it is.
     let mut ledger = Ledger {
         counts: Counts {
             in_nodes: [[0; 64]; 6],

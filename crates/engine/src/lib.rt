@@ -38,6 +38,7 @@ fn try_at(s: &[u8], f: Form, busy: u64, m: u32, at: usize) -> Result<Option<Pass
         return Ok(None);
     };
     let p = rules::process_of(found.event);
+    // By hand: as `map_err` this would be a closure that carries the place.
     if let Err(refusal) = rules::refusal(f, found.event, sets::has(busy, p), m) {
         return Err(Refused { refusal, place: at });
     }

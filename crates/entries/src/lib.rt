@@ -40,6 +40,7 @@ fn report_in(
     ensures within { IfErr result (λ r. r.place < 2 ^ 32) }
 {
     let mut greatest = [0u8; 64];
+    // Written out, as in `drawer`, whose arrays are made in the literal.
     let mut ledger = Ledger {
         counts: Counts {
             in_nodes: [[0; 64]; 6],

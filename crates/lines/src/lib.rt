@@ -199,7 +199,7 @@ pub fn lay_refusal(out: &mut [u8; LONGEST_TEXT], number: u32, place: u32) -> usi
     cursor.at
 }
 
-// The line before a recording of a drawer.
+// The line before a recording of a drawer; its number is a count of recordings, no refusal's.
 pub fn lay_heading(out: &mut [u8; LONGEST_TEXT], number: u32, place: u32) -> usize
     requires { Room out.old 0 39 }
     ensures lays { Lays out.old 0 (heading_of number place) out.new result }

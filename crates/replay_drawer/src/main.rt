@@ -208,7 +208,7 @@ fn tell(rt: &HostRuntime, from: usize, to: usize, size: usize)
     }
 }
 
-// A pass over a drawer, and what waits at its end written.
+// A pass over a drawer, and what waits at its end written. Here the file, its size and where to print become a `Pass` and a `Waiting`.
 fn go_over(rt: &HostRuntime, file: &mut File, size: usize, prints: bool) -> Result<(), Stop>
     requires { size ≤ 16777216 }
 {

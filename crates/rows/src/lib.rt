@@ -58,7 +58,8 @@ pub fn close(rows: &mut [Row], greatest: &[u8])
     }
 }
 
-// Four bytes of x, the highest first, from place at on; the buffer is lent whole, since its other bytes are promised too.
+// Four bytes of x, the highest first, from place at on; the buffer is lent whole, since its other bytes are promised too (`laid_at`).
+// `lines::lay_word` does as much, promised by `Lays`; neither crate stands on the other.
 pub fn lay_number(out: &mut [u8], at: usize, x: u32)
     requires { at + 4 ≤ length out.old }
     ensures { out.new ≡ laid_at out.old at 4 (four_bytes x) }
