@@ -104,7 +104,11 @@ fn read_row(read: &mut [[u16; 64]], p: usize, lo: usize, hi: usize, row: &[u16; 
     ensures read { as_rows read.new ≡ upd (as_rows read.old) p (between lo hi (as_fun row.now) (as_rows read.old p)) }
     ensures same { length read.new ≡ length read.old }
 {
-    read[p][lo..hi].copy_from_slice(&row[lo..hi]);
+    let row = &row[lo..hi];
+    // No `copy_from_slice`: it is `memmove`, which the library would then need of the program that links it.
+    for (i, x) in read[p][lo..hi].iter_mut().enumerate() {
+        *x = row[i];
+    }
 }
 
 // The successful SC of process p at a node at level l + 1, for the components lo to hi - 1: the six arrays by value, in and out,

@@ -168,5 +168,9 @@ module _ (s : List ℕ) (st : State) (e : outcome s ≡ accepted st) where
         go false = refl
 
     -- one true recording: the answer and out are those of report
+    pub one_told : (out' marks' out'' : List ℕ) (a b : Answer) → Draws s out marks out' marks' a → Reports s out out'' b → (a ≡ b) × (out' ≡ out'')
+    one_told out' marks' out'' a b x y = (x.answer ∙ one_answer ∙ sym y.answer, x.reports ∙ one_buffer ∙ sym y.buffer)
+
     pub one_recording : (out' marks' out'' : List ℕ) (r q : Result (Unit {0}) Refused) → Draws s out marks out' marks' (answer_of r) → Reports s out out'' (answer_of q) → (r ≡ q) × (out' ≡ out'')
-    one_recording out' marks' out'' r q x y = (same_result r q (x.answer ∙ one_answer ∙ sym y.answer), x.reports ∙ one_buffer ∙ sym y.buffer)
+    one_recording out' marks' out'' r q x y =
+        let one = one_told out' marks' out'' (answer_of r) (answer_of q) x y in (same_result r q one.0, one.1)

@@ -25,6 +25,22 @@ pub fn lay_word(out: &mut [u8], at: usize, word: &[u8]) -> usize
     at + word.len()
 }
 
+// The digits of a number at a place; the place after them. By hand: they are promised (`decimal`) in a buffer that is lent, whose other bytes are
+// promised too. By a place in and out: a `Cursor` would be written back to memory at each digit, a third more time for a drawer of many rows.
+fn lay_digits(out: &mut [u8; LONGEST_TEXT], at: usize, n: u32) -> usize
+    requires { Room out.old at (length (decimal n)) }
+    ensures lays { Lays out.old at (decimal n) out.new result }
+    ensures upper_bound { result ≤ at + 10 }
+{
+    if n < 10 {
+        out[at] = b'0' + n as u8;
+        return at + 1;
+    }
+    let last = lay_digits(out, at, n / 10);
+    out[last] = b'0' + (n % 10) as u8;
+    last + 1
+}
+
 // A buffer, and the place of the next byte.
 #[derive(Drop)]
 struct Cursor<'a> {
@@ -51,19 +67,14 @@ impl<'a> Cursor<'a> {
         self.at = lay_word(self.out, at, word);
     }
 
-    // By hand: the digits are promised (`decimal`) in a buffer that is lent, whose other bytes are promised too.
     fn lay_decimal(&mut self, n: u32)
         requires { RoomFor self.old (length (decimal n)) }
         ensures same_buffer { self.new.out.ghost_name ≡ self.old.out.ghost_name }
         ensures lays { Adds self.old (decimal n) self.new }
         ensures upper_bound { self.new.at ≤ self.old.at + 10 }
     {
-        if n < 10 {
-            self.lay_byte(b'0' + n as u8);
-            return;
-        }
-        self.lay_decimal(n / 10);
-        self.lay_byte(b'0' + (n % 10) as u8);
+        let at = self.at;
+        self.at = lay_digits(self.out, at, n);
     }
 
     fn end_line(&mut self)

@@ -29,10 +29,10 @@ use Rattle.meaning.specs.TakenIn.{in_leaf, before_read, in_store, is_in_node, ke
 use Rattle.meaning.specs.Report.{one, row_bytes, rows_bytes, report_bytes, needed, passes, answer_with, buffer_with, report_answer, report_buffer, check_with, check_answer}
 use Rattle.meaning.specs.Printed.{text, digits_of, decimal, line, row_line, row_lines, printed_of, printed}
 use Rattle.meaning.specs.Starred.{join, times, step, reads, adds, recording}
-use Rattle.meaning.specs.Direct.{cell_shown, answer_shown, three, of_sets, of_cells, of_records, of_writer, of_run, of_history, of_list, pairs}
+use Rattle.meaning.specs.Direct.{cell_shown, answer_shown, three, of_sets, of_cells, of_records, of_refusals, of_writer, of_run, of_history, of_list, pairs}
 
 pub direct : map (λ c. c.given) pairs ≡ map (λ c. c.said) pairs
-unfolding nobody with without is_in Cells.initial state_of bytes_of cut_answer read_answer write_answer write_buffer written_answer alone number_after run_down up_to times_in count_below read_of load_linked succeeds store_conditional four_bytes number_at in_table whole event_at cut_at first_of version follows height shape_of form_of too_short other_version too_long false_length no_height unknown_shape head_refusal kind_byte follow records_from records_of processes leaf_of left right child parent ancestor root attempt climb addition_steps read_steps is_root_read is_leaf_write component_of is_read_of is_store_at is_second_link upd cell_at with_cell with_value idle steps_of access_of plus counting numbered formed is_one_of onward passes_by saw_it saw_children at_step effect within next_record blank initial busy busy_count started kind_of new_row start row_after take_step process_of is_start refusal_by record_refusal take_event unless run outcome during contention in_leaf before_read in_store is_in_node keep leaf_writes in_root placed listed further position_of rank one row_bytes rows_bytes report_bytes needed passes answer_with buffer_with report_answer report_buffer check_with check_answer text digits_of decimal line row_line row_lines printed_of printed join times step reads adds recording of_sets of_cells of_records of_writer of_run of_history of_list pairs
+unfolding nobody with without is_in Cells.initial state_of bytes_of cut_answer read_answer write_answer write_buffer written_answer alone number_after run_down up_to times_in count_below read_of load_linked succeeds store_conditional four_bytes number_at in_table whole event_at cut_at first_of version follows height shape_of form_of too_short other_version too_long false_length no_height unknown_shape head_refusal kind_byte follow records_from records_of processes leaf_of left right child parent ancestor root attempt climb addition_steps read_steps is_root_read is_leaf_write component_of is_read_of is_store_at is_second_link upd cell_at with_cell with_value idle steps_of access_of plus counting numbered formed is_one_of onward passes_by saw_it saw_children at_step effect within next_record blank initial busy busy_count started kind_of new_row start row_after take_step process_of is_start refusal_by record_refusal take_event unless run outcome during contention in_leaf before_read in_store is_in_node keep leaf_writes in_root placed listed further position_of rank one row_bytes rows_bytes report_bytes needed passes answer_with buffer_with report_answer report_buffer check_with check_answer text digits_of decimal line row_line row_lines printed_of printed join times step reads adds recording of_sets of_cells of_records of_refusals of_writer of_run of_history of_list pairs
 direct = refl
 
 -- ---- the contracts: what they promise of one case each

@@ -1,7 +1,8 @@
 -- Single values of definitions that no recording's answer, report and text reaches, or not on both sides of a line: each beside what the
 -- document says, all as lists of numbers. proofs/Direct.antt shows that the two are one.
 use Rattle.std.specs.Prelude.{ℕ, zero, suc, ◌+◌, Bool, true, false, cond, List, [], ◌∷◌, ◌++◌, length, replicate, Some, None, Ok, Err}
-use Rattle.refusals.specs.Table.{number_of}
+use Rattle.refusals.specs.Table.{number_of, number_told, of_whole}
+use Rattle.refusals.specs.declared.Refusal.TheVariants.{TooShort, OtherVersion, FalseLength, TooLong, NoHeight, BrokenRecord, NoProcess, Busy, Idle, Full, NoRoom, NoCut, DrawerTooLong}
 use Rattle.sets.specs.Processes.{nobody, with, without, count_below, is_in}
 use Rattle.cell.specs.Cell as Cells
 use Rattle.cell.specs.Cell.{read_of, load_linked, succeeds, store_conditional, state_of}
@@ -229,6 +230,16 @@ of_records =
     ∷ (answer_shown (read_answer three 14) is 0 ∷ 0 ∷ [])
     ∷ []
 
+-- the numbers of the table of refusals, and what is told of a refusal of the bytes as a whole
+unfoldable pub of_refusals : List Pair
+of_refusals =
+    (number_of TooShort ∷ number_of OtherVersion ∷ number_of FalseLength ∷ number_of TooLong ∷ number_of NoHeight ∷ [] is 1 ∷ 2 ∷ 3 ∷ 4 ∷ 5 ∷ [])
+    ∷ (number_of BrokenRecord ∷ number_of NoProcess ∷ number_of Busy ∷ number_of Idle ∷ number_of Full ∷ [] is 6 ∷ 7 ∷ 8 ∷ 9 ∷ 10 ∷ [])
+    ∷ (number_of NoRoom ∷ number_of NoCut ∷ number_of DrawerTooLong ∷ [] is 11 ∷ 12 ∷ 19 ∷ [])
+    ∷ (number_told {T = ℕ} (Ok 5) ∷ number_told {T = ℕ} (Err Busy) ∷ [] is 0 ∷ 8 ∷ [])
+    ∷ (number_of (of_whole TooLong).refusal ∷ (of_whole TooLong).place ∷ [] is 4 ∷ 0 ∷ [])
+    ∷ []
+
 -- "The writer lays one event at the front of a lent buffer, 3 or 7 bytes; bytes after them stay. With less room it answers refusal 11."
 unfoldable pub of_writer : List Pair
 of_writer =
@@ -307,7 +318,7 @@ of_list =
     ∷ []
 
 unfoldable pub pairs : List Pair
-pairs = of_sets ++ (of_cells ++ (of_records ++ (of_writer ++ (of_run ++ (of_history ++ of_list)))))
+pairs = of_sets ++ (of_cells ++ (of_records ++ (of_refusals ++ (of_writer ++ (of_run ++ (of_history ++ of_list))))))
 
 -- ---- the longest recordings, which take a second to compute
 

@@ -35,6 +35,7 @@ impl Ledger<'_> {
     pub fn place_read(&mut self, i: usize)
         requires { (i < length self.old.rows.now) × (self.old.listed.rank + 1 < 2 ^ 32) }
         ensures kept { kept_of self.new ≡ read_placed i (kept_of self.old) }
+        ensures waiters { self.new.waiters.now ≡ self.old.waiters.now }
         ensures greatest { self.new.greatest.now ≡ self.old.greatest.now }
         ensures same { Same self.old self.new }
     {

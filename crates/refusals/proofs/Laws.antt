@@ -1,8 +1,9 @@
--- Each refusal has a number of its own, and none has 0.
+-- Each refusal has a number of its own, and none has 0; so two answers with one number are one.
 use Rattle.std.proofs.Common.{◌≡◌, ℕ, ◌≤◌, arith, refl, sym, ap, ◌∙◌}
+use Rattle.std.specs.Prelude.{Result, Ok, Err}
 use mathlib.Core.Bool.{cond}
 use lib.Dec.{eqb}
-use Rattle.refusals.specs.Table.{number_of}
+use Rattle.refusals.specs.Table.{number_of, number_told}
 use Rattle.refusals.specs.declared.Refusal.{Refusal}
 use Rattle.refusals.specs.declared.Refusal.TheVariants.{TooShort, OtherVersion, FalseLength, TooLong, NoHeight, BrokenRecord, NoProcess, Busy, Idle, Full, NoRoom, NoCut, DrawerTooLong}
 
@@ -55,3 +56,9 @@ back DrawerTooLong = refl
 
 pub number_one : (a b : Refusal) → number_of a ≡ number_of b → a ≡ b
 number_one a b h = sym (back a) ∙ ap numbered h ∙ back b
+
+pub told_one : (a b : Result (Unit {0}) Refusal) → number_told a ≡ number_told b → a ≡ b
+told_one (Ok x) (Ok y) e = refl
+told_one (Ok x) (Err r) e = absurd (omega (arith, number_positive r, e))
+told_one (Err r) (Ok x) e = absurd (omega (arith, number_positive r, e))
+told_one (Err r) (Err q) e = ap Err (number_one r q e)

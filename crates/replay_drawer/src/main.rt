@@ -2,9 +2,10 @@
 // refusal of the whole drawer.
 #![tactic(auto)]
 
-ghost use Rattle.std.specs.Prelude.{◌+◌, ◌≤◌, ◌<◌, ◌≡◌, IfOk};
+ghost use Rattle.std.specs.Prelude.{◌+◌, ◌≤◌, ◌<◌, ◌≡◌, IfOk, IfErr};
 ghost use Rattle.replay_drawer.specs.Sized.{size_by};
 ghost use Rattle.replay_drawer.specs.Pass.{Goes, Prints, Turns};
+ghost use Rattle.replay_drawer.specs.declared.Stop.TheVariants.{Unwritten};
 
 use arrays::sized;
 use drawer::size_of_piece;
@@ -48,7 +49,9 @@ impl Stop {
     }
 }
 
-fn send(rt: &HostRuntime, text: &[u8]) -> Result<(), Stop> {
+fn send(rt: &HostRuntime, text: &[u8]) -> Result<(), Stop>
+    ensures { IfErr result (λ stop. stop ≡ Unwritten) }
+{
     rt.write_all(text).map_err(|_| Stop::Unwritten)
 }
 
@@ -82,7 +85,8 @@ impl<'a> Waiting<'a> {
     // What waits, written; then nothing waits.
     fn write(&mut self) -> Result<(), Stop>
         requires { self.old.waits ≤ 131072 }
-        ensures { self.new.waits ≡ 0 }
+        ensures waits { self.new.waits ≡ 0 }
+        ensures stops { IfErr result (λ stop. stop ≡ Unwritten) }
     {
         sized(&self.bytes);
         let n = self.waits;
@@ -93,7 +97,8 @@ impl<'a> Waiting<'a> {
     // What waits, written where a heading and a text, 84,048 bytes at most, may find no room after it.
     fn make_room(&mut self) -> Result<(), Stop>
         requires { self.old.waits ≤ 131072 }
-        ensures { self.new.waits ≤ 47024 }
+        ensures waits { self.new.waits ≤ 47024 }
+        ensures stops { IfErr result (λ stop. stop ≡ Unwritten) }
     {
         if self.waits <= 47024 {
             return Ok(());
@@ -123,7 +128,9 @@ struct Pass<'a> {
 }
 
 impl<'a> Pass<'a> {
-    // Where in the window so many bytes from the cut on begin; it is read anew from there where it has fewer.
+    // Where in the window so many bytes from the cut on begin; it is read anew from there where it has fewer. As a call it
+    // was a sixth of the instructions that a recording of six bytes takes beside the clearing of its report.
+    #[inline(always)]
     fn hold(&mut self, wanted: usize) -> Result<usize, Stop>
         requires { Goes self.old × (wanted ≤ 65537) }
         ensures goes { Goes self.new × (self.new.at ≡ self.old.at) × (self.new.number ≡ self.old.number) × (self.new.size ≡ self.old.size) }
