@@ -11,6 +11,7 @@ ghost use Rattle.spots.specs.Spot.{spot_of, last_step};
 ghost use Rattle.arrays.specs.Arrays.{as_fun};
 ghost use Rattle.arrays.specs.Numbers.{numbers_of};
 ghost use Rattle.machine.specs.Arrays.{process_of};
+ghost use Rattle.listing.specs.declared.Waiter.{Waiter};
 ghost use Rattle.rows.specs.Rows.{RoomToClose, closed};
 ghost use Rattle.contention.specs.Greatest.{raised};
 ghost use Rattle.ledger.specs.Kept.{Kept, kept_start, kept_step, second_link};
@@ -32,6 +33,9 @@ pub trait Keeper {
 
     ghost kept: { Self → Kept };
 
+    // The whole array of waiters, with what stands behind those that wait.
+    ghost waiters: { Self → List Waiter };
+
     // By process: the greatest count of busy processes since its start.
     ghost greatest: { Self → ℕ → ℕ };
 
@@ -41,6 +45,7 @@ pub trait Keeper {
     // Before the first record: nothing is counted, nobody waits, none is listed.
     fn begin(&mut self)
         ensures begun { asked ≡ true → Begun (kept self.new) }
+        ensures others { asked ≡ true → ((kept self.new).rows ≡ (kept self.old).rows) × ((kept self.new).counts.read ≡ (kept self.old).counts.read) × (greatest self.new ≡ greatest self.old) × (waiters self.new ≡ waiters self.old) }
         ensures same { same self.old self.new };
 
     // The start of operation m by process p, with those who are busy then.
@@ -48,6 +53,7 @@ pub trait Keeper {
         requires { CanStart asked m p (lent self.old) }
         ensures kept { asked ≡ true → kept self.new ≡ kept_start m p (kind_of adds) (kept self.old) }
         ensures greatest { asked ≡ true → greatest self.new ≡ raised p (count_below 64 (is_in busy)) (greatest self.old) }
+        ensures waiters { asked ≡ true → waiters self.new ≡ waiters self.old }
         ensures same { same self.old self.new };
 
     // One step of process p, whose record was r and is next. A last step puts p's greatest count into the row.
@@ -61,6 +67,7 @@ pub trait Keeper {
     fn close(&mut self, m: u32)
         requires { asked ≡ true → (m ≤ most_operations) × (m ≤ (lent self.old).rows) × RoomToClose (kept self.old).rows m (lent self.old).processes }
         ensures rows { asked ≡ true → (kept self.new).rows ≡ closed (greatest self.old) m (kept self.old).rows }
+        ensures others { asked ≡ true → ((kept self.new).counts ≡ (kept self.old).counts) × ((kept self.new).queue ≡ (kept self.old).queue) × ((kept self.new).listed ≡ (kept self.old).listed) × (greatest self.new ≡ greatest self.old) × (waiters self.new ≡ waiters self.old) }
         ensures same { same self.old self.new };
 
     ghost itself: { (x : Self) → same x x };
@@ -80,6 +87,8 @@ impl Keeper for Nothing {
     ghost lent = { λ x. record { readers = 0; waiters = 0; rows = 0; processes = 0 } };
 
     ghost kept = { λ x. nothing };
+
+    ghost waiters = { λ x. [] };
 
     ghost greatest = { λ x p. 0 };
 
@@ -124,6 +133,8 @@ impl Keeper for Ledger<'_> {
     ghost lent = { lent_to };
 
     ghost kept = { kept_of };
+
+    ghost waiters = { λ l. l.waiters.now };
 
     ghost greatest = { λ l. as_fun l.greatest.now };
 
